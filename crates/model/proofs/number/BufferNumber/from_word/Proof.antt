@@ -1,0 +1,18 @@
+-- `BufferNumber::from_word` meets its contract, which joins those of its two callees. Assumes nothing.
+use mathlib.Core.Path.{_∙_, ap}
+use borrow.Author.Needs.{needs}
+use Rattle.model.specs.Number.{maybeBuffer}
+use Rattle.model.proofs.number.BufferNumber.from_word.Statement.{statement}
+use Rattle.model.proofs.number.BufferNumber.from_word.Tie as tie
+
+word-number-requires : tie.Need-word-number-requires
+word-number-requires c κs = search needs
+
+checked-requires : tie.Need-checked-requires
+checked-requires c κs = search needs
+
+returns : tie.Need-returns
+returns c = c .checked .ensures ∙ ap maybeBuffer (c .before .word-number .ensures)
+
+pub from-word-spec : {M : Type 1} → statement M
+from-word-spec = tie.close (tie.spec word-number-requires checked-requires returns)

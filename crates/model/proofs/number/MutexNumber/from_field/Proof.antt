@@ -1,0 +1,23 @@
+-- `MutexNumber::from_field` meets its contract, which joins those of its two callees. Assumes nothing.
+use mathlib.Core.Path.{_∙_, ap}
+use lib.IntN.{ℤ}
+use mir.Facts.{toZ-ofZ}
+use borrow.Author.Needs.{needs}
+use Rattle.model.specs.Sizes.{mutexes}
+use Rattle.model.specs.Number.{fieldNumber, maybeMutex}
+use Rattle.model.proofs.number.MutexNumber.from_field.Statement.{statement}
+use Rattle.model.proofs.number.MutexNumber.from_field.Tie as tie
+
+field-number-requires : tie.Need-field-number-requires
+field-number-requires c κs = search needs
+
+checked-requires : tie.Need-checked-requires
+checked-requires c κs = search needs
+
+returns : tie.Need-returns
+returns c =
+    c .checked .ensures
+    ∙ ap maybeMutex (c .before .field-number .ensures ∙ ap (λ (z : ℤ). fieldNumber z mutexes) (toZ-ofZ (c .before .before .fits .n)))
+
+pub from-field-spec : {M : Type 1} → statement M
+from-field-spec = tie.close (tie.spec field-number-requires checked-requires returns)

@@ -1,0 +1,224 @@
+-- 01, "On both sides of the mark": every bullet that has a [P], whole, as one table under one statement, proved by computing.
+use Prim.Native.Nat.{ℕ, suc, pred}
+use mathlib.Core.Path.{_≡_, refl}
+use mathlib.Core.Bool.{true}
+use mathlib.Core.List.{List, [], _∷_, _++_, map}
+use lib.IntN.{ℤ, pos}
+use Rattle.model.specs.declared.call.Call.{Call}
+use Rattle.model.specs.declared.call.Call.the-variants.{CreTsk, StaTsk, CreMtx, LocMtx, UnlMtx, CreMbf, SndMbf, RcvMbf, Tick}
+use Rattle.model.specs.declared.call.Answer.{Answer}
+use Rattle.model.specs.declared.call.Answer.the-variants.{Code, Waits}
+use Rattle.model.specs.Sizes.{messageBytes, storeBytes, outboxBytes}
+use Rattle.model.specs.Lists.{_!_, upTo, zeros}
+use Rattle.model.specs.Code.{minus, E-OK, E-SYS, E-PAR, E-ILUSE, E-TMOUT}
+use Rattle.model.specs.Kernel.{Kernel, fresh}
+use Rattle.model.specs.World.{Lent}
+use Rattle.model.specs.Valid.{valid}
+use Rattle.model.specs.Step.{Outcome, step, freshLent}
+use Rattle.model.specs.Compute.{compute}
+
+-- What is seen of a run: each call's answer, the ended waits with their codes, and numbers of the state at the end.
+pub record Seen : Type 0 where
+  pub answers : List Answer
+  pub ended : List (ℕ × ℤ)
+  pub numbers : List ℕ
+
+-- A case: calls from the fresh state, the areas' lengths, and what must be seen; `watched` says which numbers of the state.
+pub record Case : Type 0 where
+  pub calls : List Call
+  pub store : ℕ
+  pub outbox : ℕ
+  pub watched : List (Kernel → ℕ)
+  pub seen : Seen
+
+-- each send carries the bytes 1 to 32
+abbrev pub happens : List (Kernel → ℕ) → Lent → List Call → Seen
+happens watched x [] = record { answers = []; ended = []; numbers = map (λ f. f (x .kernel)) watched }
+happens watched x (c ∷ cs) =
+    let o = step x c (upTo messageBytes) in
+    let s = happens watched (o .lent) cs in
+    record { answers = o .answer ∷ s .answers; ended = map (λ e. (e .task, e .code)) (o .ended) ++ s .ended; numbers = s .numbers }
+
+unfoldable pub observed : Case → Seen
+observed c = happens (c .watched) (record { kernel = fresh; store = zeros (c .store); outbox = zeros (c .outbox) }) (c .calls)
+
+abbrev pub case : List Call → List Answer → List (ℕ × ℤ) → List (Kernel → ℕ) → List ℕ → Case
+case calls answers ended watched numbers =
+    record {
+      calls = calls;
+      store = storeBytes;
+      outbox = outboxBytes;
+      watched = watched;
+      seen = record { answers = answers; ended = ended; numbers = numbers };
+    }
+
+abbrev pub current : ℕ → Kernel → ℕ
+current t k = k .tasks .current ! t
+
+abbrev pub used : ℕ → Kernel → ℕ
+used b k = k .buffers .used ! b
+
+abbrev pub ceilingOf : ℕ → Kernel → ℕ
+ceilingOf m k = k .mutexes .ceiling ! m
+
+-- no timeout, and answers
+abbrev pub forever : ℤ
+forever = minus 1
+
+abbrev pub OK : Answer
+OK = Code E-OK
+
+abbrev pub new : ℕ → Answer
+new n = Code (pos n)
+
+-- ---- messages
+
+-- "msgsz -1, 0: -17."
+noMessage : Case
+noMessage =
+    case (CreMbf (pos 0) (pos 256) (pos 32) ∷ SndMbf (pos 1) (minus 1) forever ∷ SndMbf (pos 1) (pos 0) forever ∷ [])
+    (new 1 ∷ Code E-PAR ∷ Code E-PAR ∷ []) [] (used 1 ∷ []) (0 ∷ [])
+
+-- "1 stored at cost 8."
+oneByte : Case
+oneByte = case (CreMbf (pos 0) (pos 256) (pos 32) ∷ SndMbf (pos 1) (pos 1) forever ∷ []) (new 1 ∷ OK ∷ []) [] (used 1 ∷ []) (8 ∷ [])
+
+-- "32 costs 36: bufsz 256 takes seven, the eighth waits."
+abbrev send32 : Call
+send32 = SndMbf (pos 1) (pos 32) forever
+
+eighthWaits : Case
+eighthWaits =
+    case
+    (CreMbf (pos 0) (pos 256) (pos 32)
+    ∷ send32 ∷ send32 ∷ send32 ∷ send32 ∷ send32 ∷ send32 ∷ send32 ∷ send32 ∷ [])
+    (new 1 ∷ OK ∷ OK ∷ OK ∷ OK ∷ OK ∷ OK ∷ OK ∷ Waits ∷ []) [] (used 1 ∷ []) (252 ∷ [])
+
+-- a task of less urgency than task 1, which runs whenever task 1 waits
+abbrev second : List Call
+second = CreTsk (pos 9) ∷ StaTsk (pos 2) ∷ []
+
+-- "bufsz 35, 32 bytes: waits until a receiver comes."
+tooSmall : Case
+tooSmall =
+    case (second ++ CreMbf (pos 0) (pos 35) (pos 32) ∷ send32 ∷ RcvMbf (pos 1) forever ∷ [])
+    (new 2 ∷ OK ∷ new 1 ∷ Waits ∷ new 32 ∷ []) ((1, E-OK) ∷ []) (used 1 ∷ []) (0 ∷ [])
+
+-- "bufsz 36: stored."
+justFits : Case
+justFits = case (CreMbf (pos 0) (pos 36) (pos 32) ∷ send32 ∷ []) (new 1 ∷ OK ∷ []) [] (used 1 ∷ []) (36 ∷ [])
+
+-- "bufsz 0: always handed over": to a receiver that comes, and to one that waits
+handedOver : Case
+handedOver =
+    case
+    (second ++ CreMbf (pos 0) (pos 0) (pos 32) ∷ SndMbf (pos 1) (pos 1) forever ∷ RcvMbf (pos 1) forever
+    ∷ RcvMbf (pos 1) forever ∷ SndMbf (pos 1) (pos 3) forever ∷ [])
+    (new 2 ∷ OK ∷ new 1 ∷ Waits ∷ new 1 ∷ Waits ∷ OK ∷ []) ((1, E-OK) ∷ (1, pos 3) ∷ []) (used 1 ∷ []) (0 ∷ [])
+
+-- "maxmsz 32 taken, 33: -17."
+longestMessage : Case
+longestMessage =
+    case (CreMbf (pos 0) (pos 256) (pos 32) ∷ CreMbf (pos 0) (pos 256) (pos 33) ∷ []) (new 1 ∷ Code E-PAR ∷ []) [] [] []
+
+-- "Timeout -1 waits, -2: -17."
+timeouts : Case
+timeouts =
+    case (CreMbf (pos 0) (pos 256) (pos 32) ∷ RcvMbf (pos 1) (minus 2) ∷ RcvMbf (pos 1) (minus 1) ∷ [])
+    (new 1 ∷ Code E-PAR ∷ Waits ∷ []) [] [] []
+
+-- "Ceiling 16 taken, 17: -17, but with attributes 0 to 2 any ceiling is ignored and kept as 0."
+ceilings : Case
+ceilings =
+    case
+    (CreMtx (pos 3) (pos 16) ∷ CreMtx (pos 3) (pos 17) ∷ CreMtx (pos 0) (pos 5) ∷ CreMtx (pos 1) (pos 17) ∷ CreMtx (pos 2) (minus 1) ∷ [])
+    (new 1 ∷ Code E-PAR ∷ new 2 ∷ new 3 ∷ new 4 ∷ []) []
+    (ceilingOf 1 ∷ ceilingOf 2 ∷ ceilingOf 3 ∷ ceilingOf 4 ∷ []) (16 ∷ 0 ∷ 0 ∷ 0 ∷ [])
+
+-- "Buffer attribute 0, free 20; A waits with 28 bytes, then B sends 4 without a timeout: B waits too." A is task 1, B task 2.
+noPassing : Case
+noPassing =
+    case
+    (second ++ CreMbf (pos 0) (pos 56) (pos 32) ∷ send32 ∷ SndMbf (pos 1) (pos 28) forever ∷ SndMbf (pos 1) (pos 4) forever ∷ [])
+    (new 2 ∷ OK ∷ new 1 ∷ OK ∷ Waits ∷ Waits ∷ []) [] (used 1 ∷ []) (36 ∷ [])
+
+-- ---- inheritance
+
+-- Mutexes 1 and 2 of attribute 2. Task 1 is B (8); task 2 is A (12), which locks mutex 1 while task 1 waits a millisecond; task 3 is C.
+abbrev holding : ℤ → List Call
+holding c =
+    CreMtx (pos 2) (pos 0) ∷ CreMtx (pos 2) (pos 0) ∷ CreTsk (pos 12) ∷ CreTsk c ∷ StaTsk (pos 2) ∷ CreMbf (pos 0) (pos 0) (pos 1)
+    ∷ RcvMbf (pos 1) (pos 1) ∷ LocMtx (pos 1) forever ∷ Tick ∷ LocMtx (pos 2) forever ∷ []
+
+abbrev held : List Answer
+held = new 1 ∷ new 2 ∷ new 2 ∷ new 3 ∷ OK ∷ new 1 ∷ Waits ∷ OK ∷ OK ∷ OK ∷ []
+
+-- "A (12) holds 1, B (8) holds 2 and waits for 1, C (3) waits for 2: A has 3."
+abbrev chain : List Call
+chain = holding (pos 3) ++ LocMtx (pos 1) forever ∷ StaTsk (pos 3) ∷ LocMtx (pos 2) (pos 1) ∷ []
+
+chainRaises : Case
+chainRaises =
+    case chain (held ++ Waits ∷ OK ∷ Waits ∷ []) ((1, E-TMOUT) ∷ [])
+    (current 2 ∷ current 1 ∷ current 3 ∷ []) (3 ∷ 3 ∷ 3 ∷ [])
+
+-- "C times out: A and B have 8."
+chainLowers : Case
+chainLowers =
+    case (chain ++ Tick ∷ []) (held ++ Waits ∷ OK ∷ Waits ∷ OK ∷ []) ((1, E-TMOUT) ∷ (3, E-TMOUT) ∷ [])
+    (current 2 ∷ current 1 ∷ current 3 ∷ []) (8 ∷ 8 ∷ 3 ∷ [])
+
+-- "A (12) holds 1 and waits for 2, B (8) the reverse: both 8." C (2) waits for a message meanwhile.
+abbrev circle : List Call
+circle =
+    holding (pos 2) ++ StaTsk (pos 3) ∷ RcvMbf (pos 1) (pos 1) ∷ LocMtx (pos 1) forever ∷ LocMtx (pos 2) forever ∷ []
+
+abbrev inCircle : List Answer
+inCircle = held ++ OK ∷ Waits ∷ Waits ∷ Waits ∷ []
+
+circleStands : Case
+circleStands = case circle inCircle ((1, E-TMOUT) ∷ []) (current 2 ∷ current 1 ∷ []) (8 ∷ 8 ∷ [])
+
+-- "C (2) waits for 1: both 2."
+circleRaises : Case
+circleRaises =
+    case (circle ++ Tick ∷ LocMtx (pos 1) (pos 1) ∷ []) (inCircle ++ OK ∷ Waits ∷ []) ((1, E-TMOUT) ∷ (3, E-TMOUT) ∷ [])
+    (current 2 ∷ current 1 ∷ []) (2 ∷ 2 ∷ [])
+
+-- "C times out: both 8."
+circleLowers : Case
+circleLowers =
+    case (circle ++ Tick ∷ LocMtx (pos 1) (pos 1) ∷ Tick ∷ []) (inCircle ++ OK ∷ Waits ∷ OK ∷ [])
+    ((1, E-TMOUT) ∷ (3, E-TMOUT) ∷ (3, E-TMOUT) ∷ []) (current 2 ∷ current 1 ∷ []) (8 ∷ 8 ∷ [])
+
+-- ---- refusals
+
+-- "Unlock of another's mutex: -28."
+notHeld : Case
+notHeld =
+    case
+    (second ++ CreMtx (pos 2) (pos 0) ∷ LocMtx (pos 1) forever ∷ CreMbf (pos 0) (pos 0) (pos 1) ∷ RcvMbf (pos 1) forever ∷ UnlMtx (pos 1) ∷ [])
+    (new 2 ∷ OK ∷ new 1 ∷ OK ∷ new 1 ∷ Waits ∷ Code E-ILUSE ∷ []) [] (current 1 ∷ []) (8 ∷ [])
+
+-- "Store of 1,023 or 1,025 bytes: -5."
+abbrev storeOf : ℕ → Answer → Case
+storeOf n answer =
+    record { calls = Tick ∷ []; store = n; outbox = outboxBytes; watched = []; seen = record { answers = answer ∷ []; ended = []; numbers = [] } }
+
+-- ---- the table
+
+pub table : List Case
+table =
+    noMessage ∷ oneByte ∷ eighthWaits ∷ tooSmall ∷ justFits ∷ handedOver ∷ longestMessage ∷ timeouts ∷ ceilings ∷ noPassing
+    ∷ chainRaises ∷ chainLowers ∷ circleStands ∷ circleRaises ∷ circleLowers ∷ notHeld
+    ∷ storeOf (pred storeBytes) (Code E-SYS) ∷ storeOf storeBytes OK ∷ storeOf (suc storeBytes) (Code E-SYS) ∷ []
+
+-- What happens in every case is what must be seen.
+pub cases : map observed table ≡ map (λ c. c .seen) table
+unfolding compute observed table noMessage oneByte eighthWaits tooSmall justFits handedOver longestMessage timeouts ceilings noPassing chainRaises chainLowers circleStands circleRaises circleLowers notHeld
+cases = refl
+
+-- the fresh state is valid
+pub fresh-valid : valid freshLent ≡ true
+unfolding compute
+fresh-valid = refl

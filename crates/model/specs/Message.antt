@@ -1,0 +1,55 @@
+-- 01, "Send" and "Receive": how messages lie in the store and in the outbox (01's sending bay).
+use Prim.Native.Nat.{ℕ, suc, pred, _+_, _*_, _-_, _/_, min}
+use mathlib.Core.Bool.{Bool, cond}
+use mathlib.Core.List.{List, [], _∷_, _++_}
+use lib.ListN.{length, take, drop}
+use lib.Dec.{leb, eqb}
+use Rattle.model.specs.Sizes.{regionBytes, messageBytes}
+use Rattle.model.specs.Lists.{_!_, zeros, padded}
+use Rattle.model.specs.Code.{bytes4, number4}
+
+-- "Cost in store: 4 plus the length rounded up to a multiple of 4"
+abbrev pub roundedUp : ℕ → ℕ
+roundedUp n = (n + 3) / 4 * 4
+
+unfoldable pub cost : ℕ → ℕ
+cost n = 4 + roundedUp n
+
+-- "packed: length (4 bytes), bytes, zeros"
+unfoldable pub packed : List ℕ → List ℕ
+packed m = bytes4 (length m) ++ m ++ zeros (roundedUp (length m) - length m)
+
+-- A region (01: a buffer's stretch) with a message behind the bytes used; it keeps its length, whatever it holds.
+unfoldable pub appended : List ℕ → ℕ → List ℕ → List ℕ
+appended r used m = take (length r) (take used r ++ packed m ++ drop (used + length (packed m)) r)
+
+-- "Stored oldest first": the first message of a region, its length, and the region without it
+unfoldable pub oldestLength : List ℕ → ℕ
+oldestLength r = number4 (r ! 0) (r ! 1) (r ! 2) (r ! 3)
+
+unfoldable pub oldest : List ℕ → List ℕ
+oldest r = take (oldestLength r) (drop 4 r)
+
+unfoldable pub removed : List ℕ → List ℕ
+removed r = drop (cost (oldestLength r)) r ++ zeros (min (cost (oldestLength r)) (length r))
+
+-- Part n of an area that is cut into parts of one size, counted from 1; and the area with that part exchanged.
+unfoldable pub part : ℕ → ℕ → List ℕ → List ℕ
+part size n area = take size (drop (pred n * size) area)
+
+unfoldable pub withPart : ℕ → ℕ → List ℕ → List ℕ → List ℕ
+withPart size n area x = take (pred n * size) area ++ x ++ drop (n * size) area
+
+-- "256 for each buffer, in order"
+unfoldable pub region : ℕ → List ℕ → List ℕ
+region b store = part regionBytes b store
+
+unfoldable pub withRegion : ℕ → List ℕ → List ℕ → List ℕ
+withRegion b store r = withPart regionBytes b store r
+
+-- "A waiting sender's bytes lie at the start of its part of the bay. All other bytes are zero."
+unfoldable pub outboxMessage : ℕ → ℕ → List ℕ → List ℕ
+outboxMessage t n outbox = take n (part messageBytes t outbox)
+
+unfoldable pub withOutboxMessage : ℕ → List ℕ → List ℕ → List ℕ
+withOutboxMessage t outbox m = withPart messageBytes t outbox (padded messageBytes m)

@@ -1,0 +1,30 @@
+//! The kernel in ordinary Rust: the test oracle, never the product.
+//!
+//! [`run_script`] runs a script; [`run_record`] runs one call on a lent state; [`check`] tells
+//! whether a lent state and its areas are valid; [`Kernel`] is the state in plain structs. The
+//! modules [`generator`], [`selfcheck`], [`ledger`] and [`tally`] serve the tests.
+
+#![forbid(unsafe_code)]
+
+mod effects;
+pub mod generator;
+pub mod kernel;
+pub mod ledger;
+pub mod limits;
+pub mod number;
+pub mod outcome;
+mod plans;
+pub mod random;
+pub mod record;
+mod script;
+pub mod selfcheck;
+pub mod tally;
+mod valid;
+pub mod words;
+
+pub use effects::next_message;
+pub use kernel::Kernel;
+pub use outcome::{Answer, Ended, Got, Outcome};
+pub use record::Call;
+pub use script::{run_record, run_script};
+pub use valid::check;

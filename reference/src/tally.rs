@@ -1,0 +1,214 @@
+//! How often each answer, ended wait and refusal occurred, so that thin spots show.
+
+use std::collections::BTreeMap;
+use std::fmt::Write;
+
+use crate::kernel::{Kernel, Place};
+use crate::limits::*;
+use crate::number::TaskNo;
+use crate::outcome::{Answer, Outcome};
+use crate::record::{Call, KINDS};
+
+#[derive(Default)]
+pub struct Tally {
+    scripts: BTreeMap<&'static str, u64>,
+    records: u64,
+    /// By call and answer.
+    answers: BTreeMap<(usize, &'static str), u64>,
+    /// By the wait, its code and the call that ended it.
+    ended: BTreeMap<(&'static str, &'static str, usize), u64>,
+    notes: BTreeMap<&'static str, u64>,
+}
+
+/// Every pair of call and refusal that the table allows.
+const REFUSALS: [(i32, &[&str]); 11] = [
+    (
+        E_CTX,
+        &[
+            "cre_tsk", "del_tsk", "sta_tsk", "ext_tsk", "ter_tsk", "chg_pri", "cre_mtx", "del_mtx",
+            "loc_mtx", "unl_mtx", "cre_mbf", "del_mbf", "snd_mbf", "rcv_mbf", "cre_mpf", "del_mpf",
+            "get_mpf", "rel_mpf",
+        ],
+    ),
+    (E_RSATR, &["cre_mtx", "cre_mbf", "cre_mpf"]),
+    (
+        E_PAR,
+        &[
+            "cre_tsk", "chg_pri", "cre_mtx", "loc_mtx", "cre_mbf", "snd_mbf", "rcv_mbf", "cre_mpf",
+            "get_mpf", "rel_mpf",
+        ],
+    ),
+    (E_ID, &BY_NUMBER),
+    (E_NOEXS, &BY_NUMBER),
+    (E_OBJ, &["del_tsk", "sta_tsk", "ter_tsk"]),
+    (E_ILUSE, &["chg_pri", "loc_mtx", "unl_mtx"]),
+    (E_LIMIT, &["cre_tsk", "cre_mtx", "cre_mbf", "cre_mpf"]),
+    (E_NOMEM, &["cre_mbf", "cre_mpf"]),
+    (E_TMOUT, &["loc_mtx", "snd_mbf", "rcv_mbf", "get_mpf"]),
+    // Never an answer, only the end of a wait.
+    (E_DLT, &[]),
+];
+
+const BY_NUMBER: [&str; 13] = [
+    "del_tsk", "sta_tsk", "ter_tsk", "chg_pri", "del_mtx", "loc_mtx", "unl_mtx", "del_mbf",
+    "snd_mbf", "rcv_mbf", "del_mpf", "get_mpf", "rel_mpf",
+];
+
+impl Tally {
+    /// Counts a script by how it ends.
+    pub fn script(&mut self, end: &'static str) {
+        *self.scripts.entry(end).or_default() += 1;
+    }
+
+    /// Counts a record.
+    pub fn record(&mut self, before: &Kernel, call: &Call, out: &Outcome, after: &Kernel) {
+        let row = call.row();
+        self.records += 1;
+        let answer = match out.answer {
+            Answer::Code(code) => name(code),
+            Answer::Waits => "waits",
+            Answer::Exited => "exited",
+        };
+        *self.answers.entry((row, answer)).or_default() += 1;
+        for ended in &out.ended {
+            let wait = match before.task(ended.task).place {
+                Place::Locking(_) => "loc_mtx",
+                Place::Sending(_) => "snd_mbf",
+                Place::Receiving(_) => "rcv_mbf",
+                Place::Getting(_) => "get_mpf",
+                _ => "no wait",
+            };
+            *self.ended.entry((wait, name(ended.code), row)).or_default() += 1;
+            if ended.code >= 0 {
+                self.served(before, ended.task);
+            }
+        }
+        self.note("several waits ended in one call", out.ended.len() > 1);
+        self.note("a wait queue of three or more stands", longest_wait(after) > 2);
+        self.note("nobody runs", out.running.is_none());
+        let moved = |up: bool| {
+            TaskNo::all().any(|t| {
+                let (old, new) = (before.task(t), after.task(t));
+                let same = old.base == new.base && old.place == new.place;
+                same && if up { new.current < old.current } else { new.current > old.current }
+            })
+        };
+        self.note("a task raised by others", moved(true));
+        self.note("a task lowered by others", moved(false));
+        let circle = circle_members(after);
+        self.note("a circle of waits stands", circle > 0);
+        self.note("a circle of three or more stands", circle > 2);
+        self.note("a circle begins", circle > 0 && circle_members(before) == 0);
+        self.note("a circle ends", circle == 0 && circle_members(before) > 0);
+    }
+
+    /// Counts a waiter that was served for what brought it to the front of its queue.
+    fn served(&mut self, before: &Kernel, task: TaskNo) {
+        let waiter = before.task(task);
+        let (past, raised) = match waiter.place {
+            Place::Locking(_) => ("loc_mtx served past an earlier waiter", "loc_mtx served raised"),
+            Place::Sending(_) => ("snd_mbf served past an earlier waiter", "snd_mbf served raised"),
+            Place::Getting(_) => ("get_mpf served past an earlier waiter", "get_mpf served raised"),
+            _ => return,
+        };
+        let is_past = TaskNo::all().any(|t| {
+            let other = before.task(t);
+            other.place == waiter.place && other.arrival < waiter.arrival
+        });
+        self.note(past, is_past);
+        self.note(raised, waiter.current < waiter.base);
+    }
+
+    fn note(&mut self, what: &'static str, happened: bool) {
+        *self.notes.entry(what).or_default() += u64::from(happened);
+    }
+
+    /// The counts as text.
+    pub fn report(&self) -> String {
+        let mut text = String::new();
+        let scripts: u64 = self.scripts.values().sum();
+        let _ = writeln!(text, "{scripts} scripts, {} records", self.records);
+        for (end, count) in &self.scripts {
+            let _ = writeln!(text, "  script {end:<40} {count:>10}");
+        }
+        for (what, count) in &self.notes {
+            let _ = writeln!(text, "  {what:<47} {count:>10}");
+        }
+        let _ = writeln!(text, "answers");
+        for (row, (_, call, _)) in KINDS.iter().enumerate() {
+            let _ = write!(text, "  {call}:");
+            for ((_, answer), count) in self.answers.range((row, "")..(row + 1, "")) {
+                let _ = write!(text, " {answer} {count}");
+            }
+            let _ = writeln!(text);
+        }
+        let _ = writeln!(text, "ended waits: wait, code, by which call");
+        for ((wait, code, row), count) in &self.ended {
+            let _ = writeln!(text, "  {wait} {code:<8} {:<8} {count:>10}", KINDS[*row].1);
+        }
+        let _ = writeln!(text, "refusals that did not occur");
+        for (code, calls) in REFUSALS {
+            for call in calls {
+                let row = KINDS.iter().position(|kind| kind.1 == *call).unwrap_or(0);
+                if !self.answers.contains_key(&(row, name(code))) {
+                    let _ = writeln!(text, "  {call} {}", name(code));
+                }
+            }
+        }
+        text
+    }
+}
+
+/// The length of the longest wait queue.
+fn longest_wait(kernel: &Kernel) -> usize {
+    let waits = |t: TaskNo| kernel.task(t).place;
+    let queued = |place: Place| TaskNo::all().filter(|&t| waits(t) == place).count();
+    TaskNo::all()
+        .map(waits)
+        .filter(|place| !matches!(place, Place::Absent | Place::Dormant | Place::Ready))
+        .map(queued)
+        .max()
+        .unwrap_or(0)
+}
+
+/// How many tasks are members of a circle of waits for inheritance mutexes.
+fn circle_members(kernel: &Kernel) -> usize {
+    let step = |t: TaskNo| match kernel.task(t).place {
+        Place::Locking(m) => {
+            kernel.mutex(m).filter(|m| m.attribute == MUTEX_INHERIT).and_then(|m| m.holder)
+        }
+        _ => None,
+    };
+    let in_circle = |&start: &TaskNo| {
+        let mut at = start;
+        for _ in 0..TASKS {
+            match step(at) {
+                Some(next) if next == start => return true,
+                Some(next) => at = next,
+                None => return false,
+            }
+        }
+        false
+    };
+    TaskNo::all().filter(in_circle).count()
+}
+
+fn name(code: i32) -> &'static str {
+    match code {
+        E_OK => "0",
+        1.. => "number",
+        E_SYS => "E_SYS",
+        E_RSATR => "E_RSATR",
+        E_PAR => "E_PAR",
+        E_ID => "E_ID",
+        E_CTX => "E_CTX",
+        E_ILUSE => "E_ILUSE",
+        E_NOMEM => "E_NOMEM",
+        E_LIMIT => "E_LIMIT",
+        E_OBJ => "E_OBJ",
+        E_NOEXS => "E_NOEXS",
+        E_TMOUT => "E_TMOUT",
+        E_DLT => "E_DLT",
+        _ => "unnamed",
+    }
+}

@@ -1,0 +1,182 @@
+//! A kernel under test: every call is also held against the validity check and the ledger.
+#![allow(dead_code)]
+
+use reference::ledger::Ledger;
+use reference::limits::*;
+use reference::number::TaskNo;
+use reference::{check, Answer, Call, Got, Kernel, Outcome};
+
+pub struct Lab {
+    pub kernel: Kernel,
+    pub out: Outcome,
+    ledger: Ledger,
+}
+
+impl Lab {
+    pub fn new() -> Lab {
+        Lab { kernel: Kernel::fresh(), out: Outcome::default(), ledger: Ledger::fresh() }
+    }
+
+    /// Runs a call; a refused one must leave everything as it was.
+    pub fn run(&mut self, call: Call) -> Answer {
+        let before = self.kernel.clone();
+        self.kernel.run(&call, &mut self.out);
+        let words = self.kernel.to_words();
+        assert!(check(&words, self.kernel.store(), self.kernel.outbox()), "not valid: {call:?}");
+        self.ledger.enter(&call, &self.out);
+        self.ledger.compare(&self.kernel).unwrap();
+        if let Answer::Code(..=-1) = self.out.answer {
+            assert_eq!(words, before.to_words(), "{call:?}");
+            assert_eq!(self.kernel.store(), before.store(), "{call:?}");
+            assert_eq!(self.kernel.outbox(), before.outbox(), "{call:?}");
+            assert!(self.out.ended.is_empty() && self.out.got == Got::Nothing, "{call:?}");
+        }
+        self.out.answer
+    }
+
+    #[track_caller]
+    pub fn code(&mut self, call: Call) -> i32 {
+        match self.run(call) {
+            Answer::Code(code) => code,
+            other => panic!("{call:?}: {other:?}"),
+        }
+    }
+
+    #[track_caller]
+    pub fn ok(&mut self, call: Call) {
+        assert_eq!(self.run(call), Answer::Code(E_OK), "{call:?}");
+    }
+
+    #[track_caller]
+    pub fn waits(&mut self, call: Call) {
+        assert_eq!(self.run(call), Answer::Waits, "{call:?}");
+    }
+
+    /// Creates a task and starts it.
+    #[track_caller]
+    pub fn start(&mut self, priority: i32) -> i32 {
+        let task = self.code(cre_tsk(priority));
+        assert!(task > 0);
+        self.ok(sta_tsk(task));
+        task
+    }
+
+    /// Makes a ready task run by making it more urgent than all, then gives its base back when it
+    /// has made its calls.
+    #[track_caller]
+    pub fn as_task(&mut self, task: i32, calls: impl FnOnce(&mut Lab)) {
+        let base = i32::from(self.task(task).base);
+        self.ok(chg_pri(task, 1));
+        self.turn_to(task);
+        calls(self);
+        self.ok(chg_pri(task, base));
+    }
+
+    /// Lets the equally urgent tasks before it step behind.
+    #[track_caller]
+    pub fn turn_to(&mut self, task: i32) {
+        for _ in 0..TASKS {
+            if self.running() == task {
+                return;
+            }
+            let base = i32::from(self.task(self.running()).base);
+            self.ok(chg_pri(0, base));
+        }
+        panic!("task {task} does not run");
+    }
+
+    /// Ticks so often; none of them ends a wait.
+    #[track_caller]
+    pub fn quiet_ticks(&mut self, count: usize) {
+        for _ in 0..count {
+            self.ok(Call::Tick);
+            assert_eq!(self.ended(), []);
+        }
+    }
+
+    pub fn ended(&self) -> Vec<(i32, i32)> {
+        self.out.ended.iter().map(|e| (i32::from(e.task.get()), e.code)).collect()
+    }
+
+    pub fn running(&self) -> i32 {
+        self.kernel.running().map_or(0, |t| i32::from(t.get()))
+    }
+
+    pub fn task(&self, task: i32) -> &reference::kernel::Task {
+        self.kernel.task(TaskNo::new(task).unwrap())
+    }
+
+    pub fn current(&self, task: i32) -> u8 {
+        self.task(task).current
+    }
+
+    pub fn used(&self, buffer: i32) -> u16 {
+        self.kernel.buffer(reference::number::BufferNo::new(buffer).unwrap()).unwrap().used
+    }
+}
+
+pub fn cre_tsk(priority: i32) -> Call {
+    Call::CreTsk { priority }
+}
+pub fn del_tsk(task: i32) -> Call {
+    Call::DelTsk { task }
+}
+pub fn sta_tsk(task: i32) -> Call {
+    Call::StaTsk { task }
+}
+pub fn ter_tsk(task: i32) -> Call {
+    Call::TerTsk { task }
+}
+pub fn chg_pri(task: i32, priority: i32) -> Call {
+    Call::ChgPri { task, priority }
+}
+pub fn cre_mtx(attribute: i32, ceiling: i32) -> Call {
+    Call::CreMtx { attribute, ceiling }
+}
+pub fn del_mtx(mutex: i32) -> Call {
+    Call::DelMtx { mutex }
+}
+pub fn loc_mtx(mutex: i32, timeout: i32) -> Call {
+    Call::LocMtx { mutex, timeout }
+}
+pub fn unl_mtx(mutex: i32) -> Call {
+    Call::UnlMtx { mutex }
+}
+pub fn cre_mbf(attribute: i32, bufsz: i32, maxmsz: i32) -> Call {
+    Call::CreMbf { attribute, bufsz, maxmsz }
+}
+pub fn del_mbf(buffer: i32) -> Call {
+    Call::DelMbf { buffer }
+}
+/// Sends `msgsz` bytes 1, 2, 3, ... of 32.
+pub fn snd_mbf(buffer: i32, msgsz: i32, timeout: i32) -> Call {
+    Call::SndMbf { buffer, msgsz, timeout, bytes: std::array::from_fn(|i| i as u8 + 1) }
+}
+pub fn rcv_mbf(buffer: i32, timeout: i32) -> Call {
+    Call::RcvMbf { buffer, timeout }
+}
+pub fn cre_mpf(attribute: i32, count: i32, size: i32) -> Call {
+    Call::CreMpf { attribute, count, size }
+}
+pub fn del_mpf(pool: i32) -> Call {
+    Call::DelMpf { pool }
+}
+pub fn get_mpf(pool: i32, timeout: i32) -> Call {
+    Call::GetMpf { pool, timeout }
+}
+pub fn rel_mpf(pool: i32, block: i32) -> Call {
+    Call::RelMpf { pool, block }
+}
+
+/// The message that [`snd_mbf`] sends, zero filled.
+pub fn message(msgsz: usize) -> [u8; MESSAGE] {
+    std::array::from_fn(|i| if i < msgsz { i as u8 + 1 } else { 0 })
+}
+
+pub fn script(calls: &[Call]) -> Vec<u8> {
+    let mut bytes = Vec::new();
+    for call in calls {
+        call.write(&mut bytes);
+    }
+    bytes
+}

@@ -1,0 +1,111 @@
+//! Generated scripts, each record held against the validity check, the lent state and the ledger.
+
+use std::io::Write;
+use std::process::{Command, Stdio};
+
+use reference::generator::generate;
+use reference::run_script;
+use reference::selfcheck::self_check;
+use reference::tally::Tally;
+
+#[test]
+fn generated_scripts_check_out() {
+    let mut tally = Tally::default();
+    for index in 0..1_500 {
+        let script = generate(2024, index, 120, &mut tally);
+        self_check(&script).unwrap_or_else(|what| panic!("script {index}: {what}"));
+    }
+    let report = tally.report();
+    assert!(report.ends_with("refusals that did not occur\n"), "thin spots:\n{report}");
+}
+
+#[test]
+fn long_scripts_check_out() {
+    let mut tally = Tally::default();
+    for index in 0..40 {
+        let script = generate(7, index, 2_000, &mut tally);
+        self_check(&script).unwrap_or_else(|what| panic!("script {index}: {what}"));
+    }
+}
+
+#[test]
+fn a_seed_gives_the_same_scripts() {
+    let make = |seed: u64, index: u64| generate(seed, index, 80, &mut Tally::default());
+    for index in 0..50 {
+        assert_eq!(make(5, index), make(5, index));
+    }
+    assert_ne!(make(5, 1), make(5, 2));
+    assert_ne!(make(5, 1), make(6, 1));
+}
+
+fn run_binary(arguments: &[&str], input: &[u8]) -> Vec<u8> {
+    let mut child = Command::new(env!("CARGO_BIN_EXE_reference"))
+        .args(arguments)
+        .stdin(Stdio::piped())
+        .stdout(Stdio::piped())
+        .spawn()
+        .unwrap();
+    // From another thread: output may fill its pipe before all input is taken.
+    let mut stdin = child.stdin.take().unwrap();
+    let input = input.to_vec();
+    let writer = std::thread::spawn(move || drop(stdin.write_all(&input)));
+    let output = child.wait_with_output().unwrap();
+    writer.join().unwrap();
+    assert!(output.status.success());
+    output.stdout
+}
+
+#[test]
+fn the_binary_runs_scripts() {
+    for index in 0..10 {
+        let script = generate(3, index, 50, &mut Tally::default());
+        assert_eq!(run_binary(&[], &script), run_script(&script));
+    }
+    assert_eq!(run_binary(&[], &[]), []);
+    assert_eq!(run_binary(&[], &[0x40; 16_385]), [0x8D]);
+    assert_eq!(run_binary(&[], &[0x40; 100_000]), [0x8D]);
+}
+
+#[test]
+fn the_binary_runs_frames() {
+    let frame = |file: &mut Vec<u8>, bytes: &[u8]| {
+        file.extend((bytes.len() as u32).to_le_bytes());
+        file.extend(bytes);
+    };
+    let (mut scripts, mut logs) = (Vec::new(), Vec::new());
+    for index in 0..200 {
+        let script = generate(4, index, 50, &mut Tally::default());
+        frame(&mut scripts, &script);
+        frame(&mut logs, &run_script(&script));
+    }
+    assert_eq!(run_binary(&["--framed"], &scripts), logs);
+}
+
+#[test]
+fn the_generator_writes_files() {
+    let dir = std::env::temp_dir().join(format!("reference-test-{}", std::process::id()));
+    let generate = |arguments: &[&str]| {
+        let status = Command::new(env!("CARGO_BIN_EXE_generate"))
+            .args(["11", "20"])
+            .arg(&dir)
+            .args(arguments)
+            .stderr(Stdio::null())
+            .status()
+            .unwrap();
+        assert!(status.success());
+    };
+    generate(&["--check", "--records", "30"]);
+    generate(&["--each", "--records", "30"]);
+    let read = |name: &str| std::fs::read(dir.join(name)).unwrap();
+    let (mut scripts, mut logs) = (Vec::new(), Vec::new());
+    for index in 0..20 {
+        let (script, log) = (read(&format!("{index}.script")), read(&format!("{index}.log")));
+        assert_eq!(run_script(&script), log);
+        scripts.extend((script.len() as u32).to_le_bytes());
+        scripts.extend(script);
+        logs.extend((log.len() as u32).to_le_bytes());
+        logs.extend(log);
+    }
+    assert_eq!((read("scripts"), read("logs")), (scripts, logs));
+    std::fs::remove_dir_all(&dir).unwrap();
+}
