@@ -209,14 +209,105 @@ storeOf n answer =
 
 pub table : List Case
 table =
-    noMessage ∷ oneByte ∷ eighthWaits ∷ tooSmall ∷ justFits ∷ handedOver ∷ longestMessage ∷ timeouts ∷ ceilings ∷ noPassing
-    ∷ chainRaises ∷ chainLowers ∷ circleStands ∷ circleRaises ∷ circleLowers ∷ notHeld
-    ∷ storeOf (pred storeBytes) (Code E-SYS) ∷ storeOf storeBytes OK ∷ storeOf (suc storeBytes) (Code E-SYS) ∷ []
+    noMessage
+    ∷ oneByte
+    ∷ eighthWaits
+    ∷ tooSmall
+    ∷ justFits
+    ∷ handedOver
+    ∷ longestMessage
+    ∷ timeouts
+    ∷ ceilings
+    ∷ noPassing
+    ∷ chainRaises
+    ∷ chainLowers
+    ∷ circleStands
+    ∷ circleRaises
+    ∷ circleLowers
+    ∷ notHeld
+    ∷ storeOf (pred storeBytes) (Code E-SYS)
+    ∷ storeOf storeBytes OK
+    ∷ storeOf (suc storeBytes) (Code E-SYS)
+    ∷ []
 
 -- What happens in every case is what must be seen.
-pub cases : map observed table ≡ map (λ c. c .seen) table
-unfolding compute observed table noMessage oneByte eighthWaits tooSmall justFits handedOver longestMessage timeouts ceilings noPassing chainRaises chainLowers circleStands circleRaises circleLowers notHeld
-cases = refl
+abbrev pub AllHold : List Case → Type 0
+AllHold [] = Unit {0}
+AllHold (c ∷ cs) = (observed c ≡ c .seen) × AllHold cs
+
+-- Each case by computing: its own name stands in the refusal of one that does not hold.
+noMessage-holds : observed noMessage ≡ noMessage .seen
+unfolding compute observed noMessage
+noMessage-holds = refl
+
+oneByte-holds : observed oneByte ≡ oneByte .seen
+unfolding compute observed oneByte
+oneByte-holds = refl
+
+eighthWaits-holds : observed eighthWaits ≡ eighthWaits .seen
+unfolding compute observed eighthWaits
+eighthWaits-holds = refl
+
+tooSmall-holds : observed tooSmall ≡ tooSmall .seen
+unfolding compute observed tooSmall
+tooSmall-holds = refl
+
+justFits-holds : observed justFits ≡ justFits .seen
+unfolding compute observed justFits
+justFits-holds = refl
+
+handedOver-holds : observed handedOver ≡ handedOver .seen
+unfolding compute observed handedOver
+handedOver-holds = refl
+
+longestMessage-holds : observed longestMessage ≡ longestMessage .seen
+unfolding compute observed longestMessage
+longestMessage-holds = refl
+
+timeouts-holds : observed timeouts ≡ timeouts .seen
+unfolding compute observed timeouts
+timeouts-holds = refl
+
+ceilings-holds : observed ceilings ≡ ceilings .seen
+unfolding compute observed ceilings
+ceilings-holds = refl
+
+noPassing-holds : observed noPassing ≡ noPassing .seen
+unfolding compute observed noPassing
+noPassing-holds = refl
+
+chainRaises-holds : observed chainRaises ≡ chainRaises .seen
+unfolding compute observed chainRaises
+chainRaises-holds = refl
+
+chainLowers-holds : observed chainLowers ≡ chainLowers .seen
+unfolding compute observed chainLowers
+chainLowers-holds = refl
+
+circleStands-holds : observed circleStands ≡ circleStands .seen
+unfolding compute observed circleStands
+circleStands-holds = refl
+
+circleRaises-holds : observed circleRaises ≡ circleRaises .seen
+unfolding compute observed circleRaises
+circleRaises-holds = refl
+
+circleLowers-holds : observed circleLowers ≡ circleLowers .seen
+unfolding compute observed circleLowers
+circleLowers-holds = refl
+
+notHeld-holds : observed notHeld ≡ notHeld .seen
+unfolding compute observed notHeld
+notHeld-holds = refl
+
+storeOf-holds : AllHold (storeOf (pred storeBytes) (Code E-SYS) ∷ storeOf storeBytes OK ∷ storeOf (suc storeBytes) (Code E-SYS) ∷ [])
+unfolding compute observed
+storeOf-holds = (refl, (refl, (refl, tt)))
+
+pub cases : AllHold table
+unfolding table
+cases =
+    (noMessage-holds, (oneByte-holds, (eighthWaits-holds, (tooSmall-holds, (justFits-holds, (handedOver-holds, (longestMessage-holds, (timeouts-holds, (ceilings-holds, (noPassing-holds, (chainRaises-holds, (chainLowers-holds, (circleStands-holds, (circleRaises-holds, (circleLowers-holds, (notHeld-holds, storeOf-holds))))))))))))))))
 
 -- the fresh state is valid
 pub fresh-valid : valid freshLent ≡ true
