@@ -1,13 +1,13 @@
 -- The kernel's state as a record of lists; document 01 calls the kernel the bench. Lists are indexed by an object's number; entry 0
 -- stands for none and is zero. The records are built by the functions of this file alone.
 use Prim.Native.Nat.{ℕ, suc, _+_, _*_}
-use mathlib.Core.Bool.{Bool, true, _&&_, not}
+use mathlib.Core.Bool.{Bool, _&&_, not}
 use mathlib.Core.List.{List, [], _∷_, _++_}
 use lib.ListN.{length, set}
 use lib.Dec.{eqb}
 use Rattle.model.specs.Sizes.{tasks, mutexes, buffers, pools, blocks}
 use Rattle.model.specs.Lists.{_!_, padded, select, zeros}
-use Rattle.model.specs.Facts.{Facts, Queue, dormant, ready}
+use Rattle.model.specs.Facts.{Facts, Queue, ready}
 
 pub record Tasks : Type 0 where
   -- where the task stands
@@ -177,47 +177,34 @@ abbrev pub slot : ℕ → ℕ → ℕ
 slot p b = p * suc blocks + b
 
 -- "Fresh bench: task 1, base and initial priority 8, running; nothing else"
+abbrev pub freshTasks : Tasks
+freshTasks =
+    let none = zeros (suc tasks) in
+    record {
+      place = set none 1 ready;
+      object = none;
+      argument = none;
+      initial = set none 1 8;
+      base = set none 1 8;
+      current = set none 1 8;
+      left = none;
+    }
+
+abbrev pub noMutexes : Mutexes
+noMutexes = let none = zeros (suc mutexes) in record { exists = none; attribute = none; ceiling = none; holder = none }
+
+abbrev pub noBuffers : Buffers
+noBuffers = let none = zeros (suc buffers) in record { exists = none; attribute = none; bufsz = none; maxmsz = none; used = none }
+
+abbrev pub noPools : Pools
+noPools =
+    let none = zeros (suc pools) in
+    record { exists = none; attribute = none; count = none; size = none; taken = zeros (suc pools * suc blocks) }
+
 unfoldable pub fresh : Kernel
 fresh =
-    record {
-      tasks =
-          record {
-            place = set none 1 ready;
-            object = none;
-            argument = none;
-            initial = set none 1 8;
-            base = set none 1 8;
-            current = set none 1 8;
-            left = none;
-          };
-      arrivals = padded tasks (1 ∷ []);
-      mutexes =
-          record {
-            exists = zeros (suc mutexes);
-            attribute = zeros (suc mutexes);
-            ceiling = zeros (suc mutexes);
-            holder = zeros (suc mutexes);
-          };
-      buffers =
-          record {
-            exists = zeros (suc buffers);
-            attribute = zeros (suc buffers);
-            bufsz = zeros (suc buffers);
-            maxmsz = zeros (suc buffers);
-            used = zeros (suc buffers);
-          };
-      pools =
-          record {
-            exists = zeros (suc pools);
-            attribute = zeros (suc pools);
-            count = zeros (suc pools);
-            size = zeros (suc pools);
-            taken = zeros (suc pools * suc blocks);
-          };
-    }
-  where
-    none : List ℕ
-    none = zeros (suc tasks)
+    record
+    { tasks = freshTasks; arrivals = padded tasks (1 ∷ []); mutexes = noMutexes; buffers = noBuffers; pools = noPools }
 
 -- Arrivals without a task, and with it last: "Joining puts a task last and takes it from where it stood." No number of
 -- calls uses up this order.
