@@ -399,7 +399,7 @@ impl Generator<'_> {
     fn cre_mbf(&mut self) -> Call {
         let bufsz = match self.random.below(10) {
             0 => 0,
-            1 => self.random.pick(&[7, 8, 35, 36, 255, 256]),
+            1 => self.random.pick(&[7, 8, 35, 36, 255, 256, 257]),
             2 => self.random.between(0, STRETCH as i32),
             _ => self.random.between(8, 80),
         };
@@ -464,6 +464,7 @@ impl Generator<'_> {
                 let from = if self.random.percent(60) { &waiting } else { &others };
                 Call::TerTsk { task: number(self.random.maybe(from)?) }
             }
+            "chg_pri" if self.random.percent(10) => self.near_a_ceiling()?,
             "chg_pri" => {
                 let live = self.tasks(|t| t.place != Place::Absent);
                 let task =
@@ -567,6 +568,21 @@ impl Generator<'_> {
             }
             _ => Call::Tick,
         })
+    }
+
+    /// A priority around the ceiling of a mutex for a task that holds or awaits it.
+    fn near_a_ceiling(&mut self) -> Option<Call> {
+        let mut near = Vec::new();
+        for mutex in self.mutexes() {
+            let mutex = self.kernel.mutex(mutex)?;
+            if mutex.attribute == MUTEX_CEILING {
+                let tasks = mutex.holder.into_iter().chain(mutex.waiters);
+                near.extend(tasks.map(|task| (task, i32::from(mutex.ceiling))));
+            }
+        }
+        let (task, ceiling) = self.random.maybe(&near)?;
+        let priority = (ceiling + self.random.between(-1, 1)).clamp(1, i32::from(PRIORITIES));
+        Some(Call::ChgPri { task: number(task), priority })
     }
 
     /// A call of the kind on any numbers in or near their ranges.

@@ -1,7 +1,8 @@
 //! Longer plans of the generator: situations that single random calls seldom make.
 
 use crate::generator::{number, Generator};
-use crate::limits::MUTEX_INHERIT;
+use crate::kernel::Order;
+use crate::limits::{MUTEX_CEILING, MUTEX_INHERIT};
 use crate::number::{BufferNo, MutexNo, TaskNo};
 use crate::record::Call;
 
@@ -25,11 +26,13 @@ impl Step {
 impl Generator<'_> {
     /// Begins a plan if the kernel has what it takes.
     pub(crate) fn make_plan(&mut self) {
-        let plan = match self.random.below(6) {
+        let plan = match self.random.below(8) {
             0 | 1 => self.chain(true),
             2 => self.chain(false),
             3 => self.raised_sender(),
             4 => self.lowered_sender(),
+            5 => self.two_buffers_at_once(),
+            6 => self.awaited_ceiling(),
             _ => self.terminated_in_circle(),
         };
         self.plan.extend(plan.unwrap_or_default());
@@ -103,6 +106,10 @@ impl Generator<'_> {
                 steps.push(Step::by(outsider, Call::ChgPri { task: 0, priority }));
                 let timeout = self.random.between(1, 4);
                 steps.push(Step::by(outsider, lock(into, timeout)));
+                // What stood when the call began counts, although the mutex itself raised it.
+                if self.random.percent(30) {
+                    steps.push(Step::anyone(Call::DelMtx { mutex: i32::from(into.get()) }));
+                }
             }
         }
         Some(steps)
@@ -132,26 +139,28 @@ impl Generator<'_> {
         Some(steps)
     }
 
-    /// A priority-ordered buffer without receivers and how many bytes are free in it.
-    fn ordered_buffer(&mut self) -> Option<(BufferNo, i32)> {
+    /// Buffers that nobody waits at and that can hold a short message but no long one.
+    fn quiet_buffers(&mut self) -> Vec<BufferNo> {
         let mut buffers = self.buffers();
         buffers.retain(|&b| {
             self.kernel.buffer(b).is_some_and(|b| {
-                b.attribute == 1
-                    && b.maxmsz >= 16
-                    && b.bufsz >= 16
-                    && b.receivers.is_empty()
-                    && b.senders.is_empty()
+                b.maxmsz >= 16 && b.bufsz >= 16 && b.receivers.is_empty() && b.senders.is_empty()
             })
         });
-        let number = self.random.maybe(&buffers)?;
-        let buffer = self.kernel.buffer(number)?;
-        Some((number, i32::from(buffer.bufsz) - i32::from(buffer.used)))
+        self.shuffle(buffers)
+    }
+
+    fn quiet_ordered_buffer(&mut self) -> Option<BufferNo> {
+        let mut buffers = self.quiet_buffers();
+        buffers.retain(|&b| self.kernel.buffer(b).is_some_and(|b| b.attribute == 1));
+        buffers.first().copied()
     }
 
     /// Fills a buffer until 8 to 16 bytes are free: a short message fits, a long one does not.
-    fn fill_up(&mut self, steps: &mut Vec<Step>, buffer: BufferNo, mut free: i32) -> Option<()> {
-        let longest = i32::from(self.kernel.buffer(buffer)?.maxmsz) / 4 * 4;
+    fn fill_up(&mut self, steps: &mut Vec<Step>, buffer: BufferNo) -> Option<()> {
+        let state = *self.kernel.buffer(buffer)?;
+        let longest = i32::from(state.maxmsz) / 4 * 4;
+        let mut free = i32::from(state.bufsz) - i32::from(state.used);
         while free > 16 {
             let length = (free - 12 - 4).clamp(1, longest);
             let call = self.snd_mbf(buffer, length, 0);
@@ -165,13 +174,13 @@ impl Generator<'_> {
     fn raised_sender(&mut self) -> Option<Vec<Step>> {
         let mutex = *self.free_inheritance().first()?;
         let tasks = self.shuffled_ready();
-        let (buffer, free) = self.ordered_buffer()?;
+        let buffer = self.quiet_ordered_buffer()?;
         if tasks.len() < 3 {
             return None;
         }
         let [low, high, urgent] = [tasks[0], tasks[1], tasks[2]];
         let mut steps = Vec::new();
-        self.fill_up(&mut steps, buffer, free)?;
+        self.fill_up(&mut steps, buffer)?;
         let lock = |timeout| Call::LocMtx { mutex: i32::from(mutex.get()), timeout };
         let long = i32::from(self.kernel.buffer(buffer)?.maxmsz);
         steps.push(Step::by(low, lock(-1)));
@@ -196,13 +205,13 @@ impl Generator<'_> {
     fn lowered_sender(&mut self) -> Option<Vec<Step>> {
         let mutex = *self.free_inheritance().first()?;
         let tasks = self.shuffled_ready();
-        let (buffer, free) = self.ordered_buffer()?;
+        let buffer = self.quiet_ordered_buffer()?;
         if tasks.len() < 4 {
             return None;
         }
         let [raised, waiter, next, last] = [tasks[0], tasks[1], tasks[2], tasks[3]];
         let mut steps = Vec::new();
-        self.fill_up(&mut steps, buffer, free)?;
+        self.fill_up(&mut steps, buffer)?;
         let lock = |timeout| Call::LocMtx { mutex: i32::from(mutex.get()), timeout };
         let long = i32::from(self.kernel.buffer(buffer)?.maxmsz);
         steps.push(Step::by(raised, lock(-1)));
@@ -231,6 +240,64 @@ impl Generator<'_> {
                 steps.push(Step::by(last, Call::ChgPri { task, priority: 16 }));
             }
             _ => steps.extend((0..timeout).map(|_| Step::anyone(Call::Tick))),
+        }
+        Some(steps)
+    }
+
+    /// At two buffers the first senders time out in the same tick; the next ones' messages fit.
+    fn two_buffers_at_once(&mut self) -> Option<Vec<Step>> {
+        let buffers = self.quiet_buffers();
+        let tasks = self.shuffled_ready();
+        if buffers.len() < 2 || tasks.len() < 5 {
+            return None;
+        }
+        let mut steps = Vec::new();
+        let timeout = self.random.between(1, 3);
+        for (&buffer, &task) in buffers[..2].iter().zip(&tasks) {
+            self.fill_up(&mut steps, buffer)?;
+            let long = i32::from(self.kernel.buffer(buffer)?.maxmsz);
+            let call = self.snd_mbf(buffer, long, timeout);
+            steps.push(Step::by(task, call));
+            // The most urgent, so that the next one stands behind in either order.
+            steps.push(Step::anyone(Call::ChgPri { task: number(task), priority: 1 }));
+        }
+        for (&buffer, &task) in buffers[..2].iter().zip(&tasks[2..]) {
+            let call = self.snd_mbf(buffer, 4, -1);
+            steps.push(Step::by(task, call));
+        }
+        steps.extend((0..timeout).map(|_| Step::anyone(Call::Tick)));
+        Some(steps)
+    }
+
+    /// The holder of a ceiling mutex waits elsewhere, the next task waits for the mutex; then both
+    /// are changed to priorities around the ceiling.
+    fn awaited_ceiling(&mut self) -> Option<Vec<Step>> {
+        let holder = self.kernel.running()?;
+        let mut others = self.kernel.ready();
+        others.remove(holder);
+        let waiter = self.kernel.first(others, Order::Priority)?;
+        let lowest = self.kernel.task(holder).base.min(self.kernel.task(waiter).base);
+        let mut mutexes = self.mutexes();
+        mutexes.retain(|&m| {
+            self.kernel.mutex(m).is_some_and(|m| {
+                m.attribute == MUTEX_CEILING && m.holder.is_none() && m.ceiling <= lowest
+            })
+        });
+        let mut empty = self.buffers();
+        empty.retain(|b| self.kernel.next_message(i32::from(b.get())).is_empty());
+        let buffer = i32::from(self.random.maybe(&empty)?.get());
+        let chosen = self.random.maybe(&mutexes)?;
+        let ceiling = i32::from(self.kernel.mutex(chosen)?.ceiling);
+        let mutex = i32::from(chosen.get());
+        let (first, second) = (self.random.between(4, 9), self.wait_timeout());
+        let mut steps = vec![
+            Step::by(holder, Call::LocMtx { mutex, timeout: -1 }),
+            Step::by(holder, Call::RcvMbf { buffer, timeout: first }),
+            Step::by(waiter, Call::LocMtx { mutex, timeout: second }),
+        ];
+        for task in [waiter, holder, waiter] {
+            let priority = (ceiling + self.random.between(-1, 0)).max(1);
+            steps.push(Step::anyone(Call::ChgPri { task: number(task), priority }));
         }
         Some(steps)
     }

@@ -298,6 +298,31 @@ fn deletions_end_waits_in_the_order_of_the_beginning() {
     assert_eq!((lab.current(1), lab.running()), (8, a));
 }
 
+/// In a circle the first waiter is raised through the deleted mutex itself.
+#[test]
+fn a_deletion_in_a_circle_keeps_the_order_of_the_beginning() {
+    let mut lab = Lab::new();
+    lab.code(cre_mtx(2, 0)); // 1: held by the holder, to be deleted
+    lab.code(cre_mtx(2, 0)); // 2: held by the waiter
+    let holder = lab.start(14);
+    let waiter = lab.start(12);
+    let urgent = lab.start(10);
+    lab.as_task(holder, |lab| lab.ok(loc_mtx(1, -1)));
+    lab.as_task(waiter, |lab| {
+        lab.ok(loc_mtx(2, -1));
+        lab.waits(loc_mtx(1, -1));
+    });
+    lab.as_task(holder, |lab| lab.waits(loc_mtx(2, -1)));
+    lab.ok(chg_pri(urgent, 1));
+    lab.waits(loc_mtx(1, -1));
+    lab.ok(chg_pri(urgent, 10));
+    // Equally urgent, and the waiter came first; without the mutex it would have 12.
+    assert_eq!([holder, waiter, urgent].map(|task| lab.current(task)), [10, 10, 10]);
+    lab.ok(del_mtx(1));
+    assert_eq!(lab.ended(), [(waiter, E_DLT), (urgent, E_DLT)]);
+    assert_eq!([holder, waiter, urgent].map(|task| lab.current(task)), [14, 12, 10]);
+}
+
 #[test]
 fn a_deleted_mutex_is_lost_by_its_holder() {
     let mut lab = Lab::new();
