@@ -11,9 +11,10 @@ use Rattle.model.specs.Facts.{Facts}
 use Rattle.model.specs.Priority.{Linked, step, chain, linked, mostUrgent, holderAwaited, ownPriority, effective, effectives}
 use Rattle.model.specs.Kernel.{Kernel, facts, standsIn, withCurrents, withTasks}
 use Rattle.model.specs.World.{recompute}
+use Rattle.model.proofs.ListLaws.{map-agree}
 use Rattle.priority.specs.Linked.{linked-agrees}
 use Rattle.priority.specs.Least.{least-first, least-at, least-above}
-use Rattle.priority.specs.Recompute.{map-agree, allSoFar, soFar-all}
+use Rattle.priority.specs.Recompute.{allSoFar, soFar-all}
 
 -- ---- what they are worked out from
 

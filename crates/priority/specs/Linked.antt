@@ -11,65 +11,10 @@ use mathlib.Core.List.{List, [], _∷_}
 use lib.ListN.{length}
 use lib.Dec.{eqb}
 use borrow.Author.Tests.{eqb-true, eqb-false, eq-eqb, ne-eqb}
+use Rattle.model.proofs.ListLaws.{or-elim, or-left, or-right, without-keeps, without-shorter, length-countFrom, member-countFrom}
 use Rattle.model.specs.Sizes.{tasks}
 use Rattle.model.specs.Lists.{countFrom, upTo, member, select, keep, without}
 use Rattle.model.specs.Priority.{Linked, step, chain, after, linked}
-
--- ---- lists of numbers
-
-pub or-elim : (a b : Bool) → a || b ≡ true → (a ≡ true) ⊎ (b ≡ true)
-or-elim true b e = inl refl
-or-elim false b e = inr e
-
-pub or-right : (a b : Bool) → b ≡ true → a || b ≡ true
-or-right true b e = refl
-or-right false b e = e
-
-pub or-left : (a b : Bool) → a ≡ true → a || b ≡ true
-or-left true b e = refl
-or-left false b e = absurd (false≢true e)
-
--- a list without one of its numbers: the others stay, and it is shorter
-pub without-keeps : (a z : ℕ) (xs : List ℕ) → z ≢ a → member z xs ≡ true → member z (without a xs) ≡ true
-without-keeps a z [] h e = e
-without-keeps a z (y ∷ ys) h e = go (eqb a y) refl (or-elim (eqb z y) (member z ys) e) (without-keeps a z ys h)
-  where
-    go : (b : Bool) → eqb a y ≡ b → (eqb z y ≡ true) ⊎ (member z ys ≡ true) → (member z ys ≡ true → member z (without a ys) ≡ true)
-        → member z (keep (not b) y (without a ys)) ≡ true
-    go true f (inl g) rest = absurd (h (eqb-true z y g ∙ sym (eqb-true a y f)))
-    go true f (inr g) rest = rest g
-    go false f (inl g) rest = or-left (eqb z y) _ g
-    go false f (inr g) rest = or-right (eqb z y) _ (rest g)
-
-without-le : (a : ℕ) (xs : List ℕ) → length (without a xs) ≤ length xs
-without-le a [] = omega arith
-without-le a (y ∷ ys) = go (eqb a y) (without-le a ys)
-  where
-    go : (b : Bool) → length (without a ys) ≤ length ys → length (keep (not b) y (without a ys)) ≤ suc (length ys)
-    go true h = omega arith
-    go false h = omega arith
-
-pub without-shorter : (a : ℕ) (xs : List ℕ) → member a xs ≡ true → length (without a xs) < length xs
-without-shorter a [] e = absurd (false≢true e)
-without-shorter a (y ∷ ys) e = go (eqb a y) refl (or-elim (eqb a y) (member a ys) e) (without-shorter a ys)
-  where
-    go : (b : Bool) → eqb a y ≡ b → (eqb a y ≡ true) ⊎ (member a ys ≡ true) → (member a ys ≡ true → length (without a ys) < length ys)
-        → length (keep (not b) y (without a ys)) < suc (length ys)
-    go true f g rest = let h = without-le a ys in omega arith
-    go false f (inl g) rest = absurd (false≢true (sym f ∙ g))
-    go false f (inr g) rest = let h = rest g in omega arith
-
-pub length-countFrom : (a n : ℕ) → length (countFrom a n) ≡ n
-length-countFrom a zero = refl
-length-countFrom a (suc n) = ap suc (length-countFrom (suc a) n)
-
-pub member-countFrom : (a n y : ℕ) → a ≤ y → y < a + n → member y (countFrom a n) ≡ true
-member-countFrom a zero y low high = absurd (omega arith)
-member-countFrom a (suc n) y low high = go (ℕ-discrete y a) (member-countFrom (suc a) n y)
-  where
-    go : Dec (y ≡ a) → (suc a ≤ y → y < suc a + n → member y (countFrom (suc a) n) ≡ true) → member y (countFrom a (suc n)) ≡ true
-    go (yes e) rest = or-left (eqb y a) _ (eq-eqb y a e)
-    go (no f) rest = or-right (eqb y a) _ (rest (omega arith) (omega arith))
 
 -- ---- chains inside a list of tasks
 

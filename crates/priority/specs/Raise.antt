@@ -14,18 +14,8 @@ use borrow.Author.Tests.{eqb-true, eq-eqb, ne-eqb}
 use Rattle.model.specs.Sizes.{tasks}
 use Rattle.model.specs.Lists.{_!_, countFrom}
 use Rattle.model.specs.Priority.{Linked, step, chain, linked}
-use Rattle.priority.specs.Linked.{or-elim, or-left, or-right, length-countFrom, linked-agrees, bounded, goes-on}
-
--- an entry of a list that is made number by number
-pub mapped-at : {A : Type 0} (f : ℕ → A) (a n i : ℕ) (d : A) → i < n → getD (map f (countFrom a n)) i d ≡ f (a + i)
-mapped-at f a zero i d h = absurd (omega arith)
-mapped-at f a (suc n) zero d h = ap f (omega arith)
-mapped-at f a (suc n) (suc i) d h = mapped-at f (suc a) n i d (omega arith) ∙ ap f (omega arith)
-
-bool-ext : (a b : Bool) → (a ≡ true → b ≡ true) → (b ≡ true → a ≡ true) → a ≡ b
-bool-ext true b f g = sym (f refl)
-bool-ext false true f g = g refl
-bool-ext false false f g = refl
+use Rattle.model.proofs.ListLaws.{or-elim, or-left, or-right, bool-ext, length-countFrom, mapped-at}
+use Rattle.priority.specs.Linked.{linked-agrees, bounded, goes-on}
 
 module _ (next : ℕ → ℕ) where
   -- whether a walk from v comes to t

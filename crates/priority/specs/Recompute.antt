@@ -15,14 +15,9 @@ use Rattle.model.specs.Sizes.{tasks, endless}
 use Rattle.model.specs.Lists.{_!_, countFrom, upTo, select, keep}
 use Rattle.model.specs.Facts.{Facts}
 use Rattle.model.specs.Priority.{Linked, step, chain, linked, mostUrgent, holderAwaited, ownPriority, effective, effectives}
-use Rattle.priority.specs.Linked.{or-elim, or-right, length-countFrom}
+use Rattle.model.proofs.ListLaws.{or-elim, or-right, mapped-at}
 use Rattle.priority.specs.Least.{least, least-first, least-at, least-above}
-use Rattle.priority.specs.Raise.{mapped-at, comesTo, raised, Falls, comes-refl, comes-elim, comes-linked, raised-at, length-raised}
-
--- two functions that agree from a on make the same list there
-pub map-agree : {A : Type 0} (f g : ℕ → A) (a n : ℕ) → ((x : ℕ) → a ≤ x → x < a + n → f x ≡ g x) → map f (countFrom a n) ≡ map g (countFrom a n)
-map-agree f g a zero h = refl
-map-agree f g a (suc n) h = rw (h a (omega arith) (omega arith), map-agree f g (suc a) n (λ x low high. h x (omega arith) (omega arith)))
+use Rattle.priority.specs.Raise.{comesTo, raised, Falls, comes-refl, comes-elim, comes-linked, raised-at, length-raised}
 
 -- one number more among those that the most urgent is taken of
 module _ (f : ℕ → ℕ) (p : ℕ → Bool) where
