@@ -1,0 +1,5 @@
+pub mod Linked
+pub mod Least
+pub mod Raise
+pub mod Recompute
+pub mod Effective
