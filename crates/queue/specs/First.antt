@@ -9,7 +9,8 @@ use lib.ListN.{length}
 use lib.Dec.{eqb, leb, ltb}
 use borrow.Author.Tests.{leb-true, leb-false, ltb-true, ltb-false, eqb-true, eq-eqb, ne-eqb}
 use Rattle.model.specs.Lists.{_!_, member, headOf}
-use Rattle.model.specs.Queue.{insert, sorted}
+use Rattle.model.specs.Facts.{Facts, Queue}
+use Rattle.model.specs.Queue.{byPriority, insert, sorted, ordered, order, front}
 use Rattle.model.proofs.ListLaws.{or-elim, or-left, or-right, member-append, member-middle}
 
 module _ (current : List ℕ) where
@@ -167,3 +168,16 @@ module _ (current : List ℕ) where
       first-unique
       (pass-first t (t ∷ []) ts (n t (or-left (eqb t t) _ (eq-eqb t t refl))) (λ u q. n u (or-right (eqb u t) _ q)) (sorted-first t []))
       (sorted-first t ts)
+
+-- ---- the front of any queue
+
+-- a queue by arrival has the oldest at its front
+pub front-by-arrival : (f : Facts) (current : List ℕ) (q : Queue) → byPriority f q ≡ false → front f current q ≡ headOf (f .arrivals q)
+unfolding front order ordered
+front-by-arrival f current q e = rw e
+
+-- a queue by priority where somebody stands has the most urgent there, and of those the oldest
+pub front-by-priority : (f : Facts) (current : List ℕ) (q : Queue) (t : ℕ) (ts : List ℕ) → byPriority f q ≡ true → f .arrivals q ≡ t ∷ ts
+    → First current (f .arrivals q) (front f current q)
+unfolding front order ordered
+front-by-priority f current q t ts e a = rw (e, a) (sorted-first current t ts)

@@ -1,2 +1,4 @@
 pub mod First
 pub mod NextToRun
+pub mod Arrival
+pub mod Order
