@@ -3,10 +3,10 @@
 use Prim.Native.Nat.{ℕ, suc, _+_, _*_}
 use mathlib.Core.Bool.{Bool, _&&_, not}
 use mathlib.Core.List.{List, [], _∷_, _++_}
-use lib.ListN.{length, set}
+use lib.ListN.{length, drop, set}
 use lib.Dec.{eqb}
 use Rattle.model.specs.Sizes.{tasks, mutexes, buffers, pools, blocks}
-use Rattle.model.specs.Lists.{_!_, padded, select, zeros}
+use Rattle.model.specs.Lists.{_!_, padded, select, within, zeros}
 use Rattle.model.specs.Facts.{Facts, Queue, ready}
 
 pub record Tasks : Type 0 where
@@ -219,19 +219,23 @@ arrived t ts = padded (length ts) (others t ts ++ t ∷ [])
 
 -- whether a task stands in a queue, and a queue's tasks as they arrived
 unfoldable pub standsIn : Kernel → Queue → ℕ → Bool
-standsIn k q t = not (eqb t 0) && eqb (k .tasks .place ! t) (q .place) && eqb (k .tasks .object ! t) (q .object)
+standsIn k q t = within 1 tasks t && eqb (k .tasks .place ! t) (q .place) && eqb (k .tasks .object ! t) (q .object)
+
+-- A list by number with 0 for none, whatever the state has there: so the facts of a state that no kernel made are those of its objects.
+abbrev pub numbered : List ℕ → List ℕ
+numbered xs = 0 ∷ drop 1 xs
 
 -- what priorities and queue orders are worked out from
 unfoldable pub facts : Kernel → Facts
 facts k =
     record {
-      base = k .tasks .base;
-      place = k .tasks .place;
-      object = k .tasks .object;
-      mutexAttribute = k .mutexes .attribute;
-      ceiling = k .mutexes .ceiling;
-      holder = k .mutexes .holder;
-      bufferAttribute = k .buffers .attribute;
-      poolAttribute = k .pools .attribute;
+      base = numbered (k .tasks .base);
+      place = numbered (k .tasks .place);
+      object = numbered (k .tasks .object);
+      mutexAttribute = numbered (k .mutexes .attribute);
+      ceiling = numbered (k .mutexes .ceiling);
+      holder = numbered (k .mutexes .holder);
+      bufferAttribute = numbered (k .buffers .attribute);
+      poolAttribute = numbered (k .pools .attribute);
       arrivals = λ q. select (standsIn k q) (k .arrivals);
     }

@@ -10,7 +10,7 @@ use mathlib.Core.List.{List, [], _∷_, _++_, append-nil}
 use lib.ListN.{length, take, replicate, length-append, length-take, length-replicate}
 use lib.Seq.{getD-set-same, getD-set-other}
 use lib.Dec.{eqb}
-use borrow.Author.Tests.{eqb-true, eqb-false, eq-eqb, ne-eqb}
+use borrow.Author.Tests.{eqb-true, eqb-false, eq-eqb, ne-eqb, le-leb}
 use Rattle.model.specs.Sizes.{tasks}
 use Rattle.model.specs.Lists.{countFrom, upTo, zeros, padded, keep, select, member, without, occurrences}
 use Rattle.model.specs.Facts.{Queue, dormant}
@@ -122,18 +122,18 @@ module _ (k : Kernel) (t : ℕ) (q : Queue) where
   stands-others r u d = rw (getD-set-other (k .tasks .place) t u (q .place) 0 d, getD-set-other (k .tasks .object) t u (q .object) 0 d)
 
   -- the task stands in its new queue, and in no other
-  stands-itself : (r : Queue) → t ≢ 0 → t < length (k .tasks .place) → t < length (k .tasks .object) → standsIn (arrive k t q) r t ≡ sameQueue q r
+  stands-itself : (r : Queue) → 1 ≤ t → t ≤ tasks → t < length (k .tasks .place) → t < length (k .tasks .object) → standsIn (arrive k t q) r t ≡ sameQueue q r
   unfolding standsIn arrive withArrivals withObject withPlace
-  stands-itself r z a b = rw (ne-eqb t 0 z, getD-set-same (k .tasks .place) t (q .place) 0 a, getD-set-same (k .tasks .object) t (q .object) 0 b)
+  stands-itself r l h a b = rw (le-leb 1 t l, le-leb t tasks h, getD-set-same (k .tasks .place) t (q .place) 0 a, getD-set-same (k .tasks .object) t (q .object) 0 b)
 
   -- An arrival: every queue is what it was, less the task; its own queue has it last.
-  pub arrive-queue : (r : Queue) → t ≢ 0 → t < length (k .tasks .place) → t < length (k .tasks .object) → length (others t (k .arrivals)) < length (k .arrivals)
+  pub arrive-queue : (r : Queue) → 1 ≤ t → t ≤ tasks → t < length (k .tasks .place) → t < length (k .tasks .object) → length (others t (k .arrivals)) < length (k .arrivals)
       → facts (arrive k t q) .arrivals r ≡ without t (facts k .arrivals r) ++ keep (sameQueue q r) t []
   unfolding facts
-  arrive-queue r z a b room =
+  arrive-queue r l h a b room =
       ap (λ (ts : List ℕ). select (standsIn (arrive k t q) r) ts) after
       ∙ select-arrived (standsIn k r) (standsIn (arrive k t q) r) t (stands-none k r) (stands-others r) (k .arrivals) (stands-none (arrive k t q) r) room
-      ∙ ap (λ (c : Bool). without t (select (standsIn k r) (k .arrivals)) ++ keep c t []) (stands-itself r z a b)
+      ∙ ap (λ (c : Bool). without t (select (standsIn k r) (k .arrivals)) ++ keep c t []) (stands-itself r l h a b)
     where
       after : arrive k t q .arrivals ≡ arrived t (k .arrivals)
       after = unfold arrive withArrivals withObject withPlace in refl
