@@ -1,0 +1,15 @@
+-- `task` meets its contract: it reads its field. Assumes nothing.
+use mathlib.Core.Path.{refl}
+use native.Mathlib.Omega.{arith}
+use Rattle.state.specs.Words.{kernel, sizes, fromFields}
+use Rattle.state.specs.Field as field
+use Rattle.state.proofs.Accessor.{got}
+use Rattle.state.proofs.arrival.task.Statement.{statement}
+use Rattle.state.proofs.arrival.task.Tie as tie
+
+pub task-spec : {M : Type 1} → statement M
+unfolding kernel sizes fromFields
+task-spec =
+    tie.close
+    (tie.spec (λ c κs. omega arith)
+    λ c. got (c .before .before .args .state .now) field.arrivals (c .get .ensures) refl)

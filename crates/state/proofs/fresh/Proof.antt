@@ -1,0 +1,66 @@
+-- `fresh` meets its contract: five stores in zeros make the words of the fresh kernel, which antt computes. Assumes nothing.
+use mathlib.Core.Path.{_≡_}
+use lib.ListN.{length}
+use native.Mathlib.Omega.{arith}
+use borrow.Author.Needs.{needs}
+use Rattle.model.specs.Kernel.{fresh}
+use Rattle.state.specs.Words.{sizes, wordCount, words, fields}
+use Rattle.state.specs.Fresh.{left-alone, made}
+use Rattle.state.proofs.fresh.Statement.{statement}
+use Rattle.state.proofs.fresh.Tie as tie
+
+returns : tie.Need-returns
+unfolding sizes
+returns c = left-alone (c .before .before .args .state .now) (c .if1 .taken)
+
+clear-requires : tie.Need-clear-requires
+clear-requires c κs = search needs
+
+put-requires : tie.Need-put-requires
+put-requires c κs = search needs
+
+put-requires-2 : tie.Need-put-requires-2
+put-requires-2 c κs = search needs
+
+put-requires-3 : tie.Need-put-requires-3
+put-requires-3 c κs = search needs
+
+put-requires-4 : tie.Need-put-requires-4
+put-requires-4 c κs = search needs
+
+cast-put : tie.Need-cast-put
+cast-put c = search needs
+
+put-requires-5 : tie.Need-put-requires-5
+put-requires-5 c κs = search needs
+
+same-length : tie.Need-same-length
+same-length c = search needs
+
+returns-2 : tie.Need-returns-2
+unfolding sizes words fields fresh
+returns-2 c =
+    let c5 = c .before .before in
+    let c4 = c5 .before .before .before .before in
+    let c3 = c4 .before .before .before .before in
+    let c2 = c3 .before .before .before .before in
+    let c1 = c2 .before .before .before .before in
+    let c0 = c1 .before .before .before .before in
+    let start = c0 .before .before .before .before in
+    let h : length (start .args .state .now) ≡ wordCount = omega arith in
+    made _ _ h (rw (c5 .put5 .ensures, c4 .put4 .ensures, c3 .put3 .ensures, c2 .put2 .ensures, c1 .put .ensures, c0 .clear .ensures, h))
+
+pub fresh-spec : {M : Type 1} → statement M
+fresh-spec =
+    tie.close
+    (tie.spec
+    returns
+    clear-requires
+    put-requires
+    put-requires-2
+    put-requires-3
+    put-requires-4
+    cast-put
+    put-requires-5
+    same-length
+    returns-2)

@@ -1,0 +1,17 @@
+-- `set_ceiling` meets its contract: it stores in its field. Assumes nothing.
+use native.Mathlib.Omega.{arith}
+use borrow.Author.Needs.{needs}
+use Rattle.model.specs.Kernel.{withCeiling}
+use Rattle.state.specs.Words.{kernel, sizes, fromFields}
+use Rattle.state.specs.Field as field
+use Rattle.state.proofs.Accessor.{put}
+use Rattle.state.proofs.mutex.set_ceiling.Statement.{statement}
+use Rattle.state.proofs.mutex.set_ceiling.Tie as tie
+
+pub set-ceiling-spec : {M : Type 1} → statement M
+unfolding kernel sizes fromFields withCeiling
+set-ceiling-spec =
+    tie.close
+    (tie.spec (λ c κs. search needs) (λ c. search needs) (λ c κs. omega arith) (λ c. search needs)
+    λ c. let a = c .before .before .before .before .before .before .args in
+    put (a .state .now) field.ceiling (a .v) (c .before .before .put .ensures) (c .before .before .before .word .ensures) (search needs))

@@ -1,0 +1,4 @@
+pub mod Layout
+pub mod Field
+pub mod Words
+pub mod Fresh
