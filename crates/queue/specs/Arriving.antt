@@ -59,9 +59,9 @@ the-arrivals k x = refl
 module _ (t i j : ℕ) (w : List ℕ) (n : length w ≡ wordCount) where
   passed : other t (kernel w .arrivals ! i) ≡ false → Kept t i j w w j
   passed e =
-      record
-      { state = record { length = n; kernel = sym (rw e (same-arrivals (kernel w))) }
-      ; count = rw e
+      record {
+        state = record { length = n; kernel = sym (rw e (same-arrivals (kernel w))) };
+        count = rw e;
       }
 
   pub kept-none : (u : ℕ) → u ≡ kernel w .arrivals ! i → u ≡ 0 → Kept t i j w w j
@@ -72,9 +72,9 @@ module _ (t i j : ℕ) (w : List ℕ) (n : length w ≡ wordCount) where
 
   pub kept-other : (u : ℕ) (v : List ℕ) → u ≡ kernel w .arrivals ! i → (u ≡ 0 → ⊥) → (u ≡ t → ⊥) → Represents v (withArrival (kernel w) j u) → Kept t i j w v (j + 1)
   kept-other u v e z d r =
-      record
-      { state = record { length = r .length; kernel = r .kernel ∙ rw (yes-other, ← e) }
-      ; count = rw yes-other
+      record {
+        state = record { length = r .length; kernel = r .kernel ∙ rw (yes-other, ← e) };
+        count = rw yes-other;
       }
     where
       yes-other : other t (kernel w .arrivals ! i) ≡ true
@@ -99,32 +99,32 @@ over k x f = refl
 
 pub gather-start : (t : ℕ) (w : List ℕ) → length w ≡ wordCount → Gathering t w w 0 0
 gather-start t w n =
-    record
-    { start = n
-    ; state = record { length = n; kernel = sym (ap (withArrivals (kernel w)) (gathered-start t (kernel w .arrivals)) ∙ same-arrivals (kernel w)) }
-    ; counted = sym (count-start t (kernel w .arrivals))
-    ; few = omega arith
-    ; within = omega arith
+    record {
+      start = n;
+      state = record { length = n; kernel = sym (ap (withArrivals (kernel w)) (gathered-start t (kernel w .arrivals)) ∙ same-arrivals (kernel w)) };
+      counted = sym (count-start t (kernel w .arrivals));
+      few = omega arith;
+      within = omega arith;
     }
 
 pub gather-more : (t : ℕ) (w v u : List ℕ) (j i r : ℕ) → i < tasks → Gathering t w v j i → Kept t i j v u r → Gathering t w u r (i + 1)
 gather-more t w v u j i r h g k =
-    record
-    { start = g .start
-    ; state =
-        record
-        { length = k .state .length
-        ; kernel =
-            k .state .kernel
-            ∙ ap (λ (x : Kernel). withArrivals x (keptArrivals t i j (x .arrivals))) (g .state .kernel)
-            ∙ over (kernel w) (gathered t a i) (keptArrivals t i j)
-            ∙ ap (λ (n : ℕ). withArrivals (kernel w) (keptArrivals t i n (gathered t a i))) (g .counted)
-            ∙ ap (withArrivals (kernel w)) (gathered-step t a i inside)
-            ∙ ap (λ (n : ℕ). withArrivals (kernel w) (gathered t a n)) (sym (add-one i))
-        }
-    ; counted = counting
-    ; few = let l = count-le t a (i + 1) in let e = counting in omega arith
-    ; within = omega arith
+    record {
+      start = g .start;
+      state =
+          record {
+            length = k .state .length;
+            kernel =
+                k .state .kernel
+                ∙ ap (λ (x : Kernel). withArrivals x (keptArrivals t i j (x .arrivals))) (g .state .kernel)
+                ∙ over (kernel w) (gathered t a i) (keptArrivals t i j)
+                ∙ ap (λ (n : ℕ). withArrivals (kernel w) (keptArrivals t i n (gathered t a i))) (g .counted)
+                ∙ ap (withArrivals (kernel w)) (gathered-step t a i inside)
+                ∙ ap (λ (n : ℕ). withArrivals (kernel w) (gathered t a n)) (sym (add-one i));
+          };
+      counted = counting;
+      few = let l = count-le t a (i + 1) in let e = counting in omega arith;
+      within = omega arith;
     }
   where
     a : List ℕ
@@ -144,10 +144,10 @@ gather-more t w v u j i r h g k =
 
 pub gather-done : (t : ℕ) (w v : List ℕ) (j i : ℕ) → tasks ≤ i → Gathering t w v j i → Gathered t w v j
 gather-done t w v j i h g =
-    record
-    { state = record { length = g .state .length; kernel = g .state .kernel ∙ ap (λ (n : ℕ). withArrivals (kernel w) (gathered t a n)) all ∙ ap (withArrivals (kernel w)) (gathered-all t a) }
-    ; count = g .counted ∙ ap (count t a) all ∙ count-all t a
-    ; few = let f = g .few in let l = g .within in omega arith
+    record {
+      state = record { length = g .state .length; kernel = g .state .kernel ∙ ap (λ (n : ℕ). withArrivals (kernel w) (gathered t a n)) all ∙ ap (withArrivals (kernel w)) (gathered-all t a) };
+      count = g .counted ∙ ap (count t a) all ∙ count-all t a;
+      few = let f = g .few in let l = g .within in omega arith;
     }
   where
     a : List ℕ
@@ -193,36 +193,36 @@ clearing-step from i a low h =
 
 pub clear-start : (w : List ℕ) (from : ℕ) → length w ≡ wordCount → Clearing w w from from
 clear-start w from n =
-    record
-    { start = n
-    ; state = record { length = n; kernel = sym (ap (withArrivals (kernel w)) (clearing-start from (kernel w .arrivals)) ∙ same-arrivals (kernel w)) }
-    ; low = omega arith
-    ; high = omega arith
+    record {
+      start = n;
+      state = record { length = n; kernel = sym (ap (withArrivals (kernel w)) (clearing-start from (kernel w .arrivals)) ∙ same-arrivals (kernel w)) };
+      low = omega arith;
+      high = omega arith;
     }
 
 pub clear-more : (w v u : List ℕ) (from i : ℕ) → i < tasks → Clearing w v from i → Represents u (withArrival (kernel v) i 0) → Clearing w u from (i + 1)
 clear-more w v u from i h g r =
-    record
-    { start = g .start
-    ; state =
-        record
-        { length = r .length
-        ; kernel =
-            r .kernel
-            ∙ ap (λ (x : Kernel). withArrival x i 0) (g .state .kernel)
-            ∙ over (kernel w) (clearing from i (kernel w .arrivals)) (λ l. set l i 0)
-            ∙ ap (withArrivals (kernel w)) (clearing-step from i (kernel w .arrivals) (g .low) (let l = arrivals-long w (g .start) in omega arith))
-        }
-    ; low = let l = g .low in omega arith
-    ; high = omega arith
+    record {
+      start = g .start;
+      state =
+          record {
+            length = r .length;
+            kernel =
+                r .kernel
+                ∙ ap (λ (x : Kernel). withArrival x i 0) (g .state .kernel)
+                ∙ over (kernel w) (clearing from i (kernel w .arrivals)) (λ l. set l i 0)
+                ∙ ap (withArrivals (kernel w)) (clearing-step from i (kernel w .arrivals) (g .low) (let l = arrivals-long w (g .start) in omega arith));
+          };
+      low = let l = g .low in omega arith;
+      high = omega arith;
     }
 
 pub clear-done : (w v : List ℕ) (from i : ℕ) → tasks ≤ i → Clearing w v from i → Represents v (clearedFrom from (kernel w))
 unfolding clearing
 clear-done w v from i h g =
-    record
-    { length = g .state .length
-    ; kernel = g .state .kernel ∙ ap (withArrivals (kernel w)) end
+    record {
+      length = g .state .length;
+      kernel = g .state .kernel ∙ ap (withArrivals (kernel w)) end;
     }
   where
     a : List ℕ
