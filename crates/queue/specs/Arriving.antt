@@ -12,10 +12,12 @@ use lib.ListN.{length, take, drop, set, length-append, length-take, length-repli
 use lib.Seq.{drop-cons}
 use Rattle.model.specs.Sizes.{tasks}
 use Rattle.model.specs.Lists.{_!_, zeros}
-use Rattle.model.specs.Kernel.{Kernel, others, withArrivals}
+use Rattle.model.specs.Facts.{queue}
+use Rattle.model.specs.Kernel.{Kernel, others, departed, arrived, withArrivals, withPlace, withObject}
+use Rattle.model.specs.Act.{arrive}
 use Rattle.state.specs.Words.{wordCount, sizes, fields, kernel, withArrival, Represents, sized, size-of}
 use Rattle.state.specs.Field as field
-use Rattle.queue.specs.Gather.{other, keptArrivals, keptCount, gathered, count, gathered-start, count-start, gathered-step, gathered-all, count-step, count-all, count-le, set-seam}
+use Rattle.queue.specs.Gather.{other, keptArrivals, keptCount, gathered, count, gathered-start, count-start, gathered-step, gathered-all, count-step, count-all, count-le, set-seam, cleared, departed-is, arrived-is}
 
 -- one place is seen: the words after it, and how many others have been found
 pub record Kept (t i j : ℕ) (w v : List ℕ) (r : ℕ) : Type 0 where
@@ -236,3 +238,51 @@ clear-done w v from i h g =
 
     end : clearing from i a ≡ take from a ++ zeros (length a - from)
     end = ap (λ (l : List ℕ). (take from a ++ zeros (i - from)) ++ l) (drop-of-length-le a {i = i} (let e = n in omega arith)) ∙ append-nil (take from a ++ zeros (i - from)) ∙ ap (λ (k : ℕ). take from a ++ zeros k) m
+
+-- ---- the whole act
+
+cleared-after : (k : Kernel) (x : List ℕ) (n : ℕ) → clearedFrom n (withArrivals k x) ≡ withArrivals k (take n x ++ zeros (length x - n))
+unfolding withArrivals
+cleared-after k x n = refl
+
+pub departs : (t : ℕ) (w v u : List ℕ) (j : ℕ) → Gathered t w v j → Represents u (clearedFrom j (kernel v)) → Represents u (withArrivals (kernel w) (departed t (kernel w .arrivals)))
+departs t w v u j g r =
+    record {
+      length = r .length;
+      kernel =
+          r .kernel
+          ∙ ap (clearedFrom j) (g .state .kernel)
+          ∙ cleared-after (kernel w) _ j
+          ∙ ap (λ (n : ℕ). withArrivals (kernel w) (cleared t a n (others t a ++ drop (length (others t a)) a))) (g .count)
+          ∙ ap (withArrivals (kernel w)) (departed-is t a);
+    }
+  where
+    a : List ℕ
+    a = kernel w .arrivals
+
+pub rejoins : (t : ℕ) (w v u x : List ℕ) (j n : ℕ) → Gathered t w v j → n ≡ t → Represents u (withArrival (kernel v) j n) → Represents x (clearedFrom (j + 1) (kernel u))
+    → Represents x (withArrivals (kernel w) (arrived t (kernel w .arrivals)))
+rejoins t w v u x j n g e s r =
+    record {
+      length = r .length;
+      kernel =
+          r .kernel
+          ∙ ap (clearedFrom (j + 1)) (s .kernel ∙ ap (λ (m : ℕ). withArrival (kernel v) j m) e ∙ ap (λ (k : Kernel). withArrival k j t) (g .state .kernel) ∙ over (kernel w) _ (λ l. set l j t))
+          ∙ cleared-after (kernel w) _ (j + 1)
+          ∙ ap (λ (n : ℕ). withArrivals (kernel w) (cleared t a (n + 1) (set (others t a ++ drop (length (others t a)) a) n t))) (g .count)
+          ∙ ap (withArrivals (kernel w)) (arrived-is t a);
+    }
+  where
+    a : List ℕ
+    a = kernel w .arrivals
+
+pub arrives : (t place object : ℕ) (w v u x : List ℕ) → Represents v (withPlace (kernel w) t place) → Represents u (withObject (kernel v) t object)
+    → Represents x (withArrivals (kernel u) (arrived t (kernel u .arrivals))) → Represents x (arrive (kernel w) t (queue place object))
+arrives t place object w v u x p o r =
+    record {
+      length = r .length;
+      kernel =
+          r .kernel
+          ∙ ap (λ (k : Kernel). withArrivals k (arrived t (k .arrivals))) (o .kernel ∙ ap (λ (k : Kernel). withObject k t object) (p .kernel))
+          ∙ (unfold arrive withArrivals withObject withPlace in refl);
+    }

@@ -1,0 +1,11 @@
+-- `arrive` meets its contract, step by step. Assumes nothing.
+use borrow.Author.Needs.{needs}
+use Rattle.queue.specs.Arriving.{arrives}
+use Rattle.queue.proofs.arrival.arrive.Statement.{statement}
+use Rattle.queue.proofs.arrival.arrive.Tie as tie
+
+pub arrive-spec : {M : Type 1} → statement M
+arrive-spec =
+    tie.close
+    (tie.spec (λ c κs. search needs) (λ c κs. search needs) (λ c κs. search needs) (λ c. search needs)
+    λ c. arrives _ _ _ _ _ _ _ (c .before .before .before .before .before .before .before .before .before .before .set-place .ensures) (c .before .before .before .before .before .before .set-object .ensures) (c .before .before .rejoin .ensures))
