@@ -97,8 +97,9 @@ module _ (current : List ℕ) where
   abbrev pub better : ℕ → ℕ → ℕ
   better b t = cond (eqb b 0) t (cond (ltb (current ! t) (current ! b)) t b)
 
-  better-first : (b t : ℕ) {ts : List ℕ} → b ≢ 0 → First ts b → First (ts ++ t ∷ []) (better b t)
-  better-first b t {ts} h f = rw (ne-eqb b 0 h) (go (ltb (current ! t) (current ! b)) refl)
+  -- one more task that arrived after all the others
+  pub last-first : (b t : ℕ) {ts : List ℕ} → First ts b → First (ts ++ t ∷ []) (cond (ltb (current ! t) (current ! b)) t b)
+  last-first b t {ts} f = go (ltb (current ! t) (current ! b)) refl
     where
       go : (c : Bool) → ltb (current ! t) (current ! b) ≡ c → First (ts ++ t ∷ []) (cond c t b)
       go true e =
@@ -125,6 +126,9 @@ module _ (current : List ℕ) where
           later : (u : ℕ) → (member u (f .behind) ≡ true) ⊎ (member u (t ∷ []) ≡ true) → current ! b ≤ current ! u
           later u (inl q) = f .later u q
           later u (inr q) = last u (or-elim (eqb u t) false q)
+
+  better-first : (b t : ℕ) {ts : List ℕ} → b ≢ 0 → First ts b → First (ts ++ t ∷ []) (better b t)
+  better-first b t h f = rw (ne-eqb b 0 h) (last-first b t f)
 
   -- of the same tasks there is one first: of two, the later one would be more urgent than the earlier, and not
   apart : (a b y : ℕ) (ys us vs : List ℕ) → a ≡ y → us ≡ ys ++ b ∷ vs

@@ -4,3 +4,7 @@ pub mod Arrival
 pub mod Order
 pub mod Gather
 pub mod Arriving
+pub mod Standing
+pub mod Search
+pub mod Fronts
+pub mod Next

@@ -1,0 +1,64 @@
+-- `oldest` meets its contract. The loop's invariant: what is found from here on is what is found at all. Assumes nothing.
+use Prim.Native.Nat.{ℕ, _-_, _≤_}
+use native.Mathlib.Omega.{arith}
+use mathlib.Core.Path.{_≡_, _∙_, refl, sym, ap}
+use mathlib.Core.List.{List, foldl}
+use lib.ListN.{length, drop}
+use borrow.Author.Needs.{needs}
+use Rattle.model.specs.Sizes.{tasks}
+use Rattle.model.specs.Lists.{_!_, select, headOf}
+use Rattle.model.specs.Facts.{queue}
+use Rattle.model.specs.Kernel.{numbered, standsIn}
+use Rattle.state.specs.Words.{wordCount, kernel}
+use Rattle.queue.specs.Search.{nobody-left, first-hit, first-miss}
+use Rattle.queue.specs.Standing.{arrivals-long}
+use Rattle.queue.proofs.front.oldest.Statement.{statement}
+use Rattle.queue.proofs.front.oldest.Tie as tie
+
+abbrev left : List ℕ → ℕ → ℕ → ℕ → ℕ
+left w place object i = headOf (select (standsIn (kernel w) (queue place object)) (drop i (kernel w .arrivals)))
+
+abbrev Inv-loop : tie.InvT-loop
+Inv-loop state place object i₀ i = (left state place object 0 ≡ left state place object i) × (i ≤ tasks)
+
+abbrev μ-loop : tie.MeasureT-loop
+μ-loop state place object i₀ i = tasks - i
+
+loop-holds : tie.Need-loop-holds Inv-loop μ-loop
+loop-holds c = (refl, omega arith)
+
+task-requires : tie.Need-task-requires Inv-loop μ-loop
+task-requires c κs = search needs
+
+stands-in-requires : tie.Need-stands-in-requires Inv-loop μ-loop
+stands-in-requires c κs = search needs
+
+returns : tie.Need-returns Inv-loop μ-loop
+returns c =
+    let a = c .before .before .before .before .before .before .args in
+    let k = kernel (a .state .now) in
+    let e = c .before .before .task .ensures in
+    let s = ap (standsIn k (queue (a .place) (a .object))) (sym e) ∙ sym (c .before .stands-in .ensures) ∙ c .if1 .taken in
+    e ∙ sym (c .before .before .before .before .loop .inv .0 ∙ first-hit (standsIn k (queue (a .place) (a .object))) (k .arrivals) (c .before .before .before .before .loop .i) (omega (arith, arrivals-long (a .state .now) (c .before .before .before .before .before .before .pre))) s)
+
+add-i : tie.Need-add-i Inv-loop μ-loop
+add-i c = search needs
+
+loop-less : tie.Need-loop-less Inv-loop μ-loop
+loop-less c = omega arith
+
+loop-again : tie.Need-loop-again Inv-loop μ-loop
+loop-again c =
+    let a = c .before .before .before .before .before .before .args in
+    let k = kernel (a .state .now) in
+    let s = ap (standsIn k (queue (a .place) (a .object))) (sym (c .before .before .task .ensures)) ∙ sym (c .before .stands-in .ensures) ∙ c .if1 .left in
+    (c .before .before .before .before .loop .inv .0 ∙ first-miss (standsIn k (queue (a .place) (a .object))) (k .arrivals) (c .before .before .before .before .loop .i) (omega (arith, arrivals-long (a .state .now) (c .before .before .before .before .before .before .pre))) s, omega arith)
+
+returns-2 : tie.Need-returns-2 Inv-loop μ-loop
+returns-2 c =
+    let a = c .before .before .before .args in
+    let k = kernel (a .state .now) in
+    sym (c .before .loop .inv .0 ∙ ap headOf (nobody-left (standsIn k (queue (a .place) (a .object))) (k .arrivals) (c .before .loop .i) (omega (arith, arrivals-long (a .state .now) (c .before .before .before .pre)))))
+
+pub oldest-spec : {M : Type 1} → statement M
+oldest-spec = tie.close (tie.spec Inv-loop μ-loop loop-holds task-requires stands-in-requires returns add-i loop-less loop-again returns-2)

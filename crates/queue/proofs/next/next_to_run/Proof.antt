@@ -1,0 +1,87 @@
+-- `next_to_run` meets its contract. The loops' invariants: what is left of the search decides what it finds. Assumes nothing.
+use Prim.Native.Nat.{suc, _-_}
+use native.Mathlib.Omega.{arith}
+use mathlib.Core.Path.{_≡_, _∙_, refl, sym}
+use borrow.Author.Needs.{needs}
+use Rattle.model.specs.Sizes.{tasks, priorities}
+use Rattle.model.specs.declared.number.MaybeTask.the-variants.{Nothing}
+use Rattle.queue.specs.Next.{Searching, Looking, search-start, search-done, look-start, look-more, look-done, look-hit}
+use Rattle.queue.proofs.next.next_to_run.Statement.{statement}
+use Rattle.queue.proofs.next.next_to_run.Tie as tie
+
+abbrev Inv-loop : tie.InvT-loop
+Inv-loop state found₀ p i₀ found i = (found ≡ Nothing) × Looking state p i
+
+abbrev μ-loop : tie.MeasureT-loop
+μ-loop state found₀ p i₀ found i = tasks - i
+
+abbrev Inv-search : tie.InvT-search
+Inv-search state found₀ p₀ found p = (found ≡ Nothing) × Searching state p
+
+abbrev μ-search : tie.MeasureT-search
+μ-search state found₀ p₀ found p = suc priorities - p
+
+search-holds : tie.Need-search-holds Inv-loop μ-loop Inv-search μ-search
+search-holds c = (refl, search-start _ (c .before .pre))
+
+loop-holds : tie.Need-loop-holds Inv-loop μ-loop Inv-search μ-search
+loop-holds c = (c .before .search .inv .0, look-start _ _ (c .search-test .taken) (c .before .search .inv .1))
+
+task-requires : tie.Need-task-requires Inv-loop μ-loop Inv-search μ-search
+task-requires c κs = search needs
+
+ready-at-requires : tie.Need-ready-at-requires Inv-loop μ-loop Inv-search μ-search
+ready-at-requires c κs = search needs
+
+from-word-requires : tie.Need-from-word-requires Inv-loop μ-loop Inv-search μ-search
+from-word-requires c κs = search needs
+
+add-i : tie.Need-add-i Inv-loop μ-loop Inv-search μ-search
+add-i c = search needs
+
+loop-less : tie.Need-loop-less Inv-loop μ-loop Inv-search μ-search
+loop-less c = omega arith
+
+loop-again : tie.Need-loop-again Inv-loop μ-loop Inv-search μ-search
+loop-again c =
+    let l = c .before .before .before .before .loop .inv in
+    (l .0, look-more _ _ _ (l .1) (c .before .before .before .loop-test .taken) _ (c .before .before .task .ensures) (sym (c .before .ready-at .ensures) ∙ c .if1 .left))
+
+add-p : tie.Need-add-p Inv-loop μ-loop Inv-search μ-search
+add-p c = search needs
+
+search-less : tie.Need-search-less Inv-loop μ-loop Inv-search μ-search
+search-less c = let h = c .before .loop .inv .1 .inside in omega arith
+
+search-again : tie.Need-search-again Inv-loop μ-loop Inv-search μ-search
+search-again c = let l = c .before .loop .inv in (l .0, look-done _ _ _ (l .1) (c .loop-test .left))
+
+returns : tie.Need-returns Inv-loop μ-loop Inv-search μ-search
+returns c = let s = c .before .search .inv in s .0 ∙ search-done _ _ (c .search-test .left) (s .1)
+
+returns-2 : tie.Need-returns-2 Inv-loop μ-loop Inv-search μ-search
+returns-2 c =
+    let l = c .before .before .before .before .before .loop .inv in
+    c .from-word .ensures ∙ look-hit _ _ _ (l .1) (c .before .before .before .before .loop-test .taken) _ (c .before .before .before .task .ensures) (sym (c .before .before .ready-at .ensures) ∙ c .before .if1 .taken)
+
+pub next-to-run-spec : {M : Type 1} → statement M
+next-to-run-spec =
+    tie.close
+    (tie.spec
+    Inv-loop
+    μ-loop
+    Inv-search
+    μ-search
+    search-holds
+    loop-holds
+    task-requires
+    ready-at-requires
+    from-word-requires
+    add-i
+    loop-less
+    loop-again
+    add-p
+    search-less
+    search-again
+    returns
+    returns-2)

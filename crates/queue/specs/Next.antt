@@ -1,0 +1,154 @@
+-- The search for the next to run, priority by priority and place by place: what is left decides what is found. Assumes nothing.
+use Prim.Native.Nat.{ℕ, zero, suc, _+_, _-_, _≤_, _<_}
+use native.Mathlib.Numerals.{add-one}
+use native.Mathlib.Omega.{arith}
+use mathlib.Core.Path.{_≡_, _∙_, refl, sym, ap, ap₂, fun-ext}
+use mathlib.Core.Logic.{_≢_}
+use mathlib.Core.Bool.{Bool, true, false, _&&_}
+use mathlib.Core.List.{List, [], _∷_}
+use lib.ListN.{length, drop, drop-of-length-le}
+use lib.Seq.{drop-cons}
+use lib.Dec.{eqb}
+use Rattle.model.specs.Sizes.{tasks, priorities}
+use Rattle.model.specs.Lists.{_!_, countFrom, keep, select, firstWhere}
+use Rattle.model.specs.Number.{wordNumber, maybeTask}
+use Rattle.model.specs.declared.number.MaybeTask.the-variants.{Nothing}
+use Rattle.model.specs.Facts.{readyQueue}
+use Rattle.model.specs.Queue.{searchReady, nextToRun}
+use Rattle.model.specs.Kernel.{Kernel, numbered, standsIn, facts}
+use Rattle.model.specs.World.{running}
+use Rattle.model.proofs.NumberLaws.{numbered-at, word-in-range, task-zero}
+use Rattle.state.specs.Words.{wordCount, kernel}
+use Rattle.queue.specs.NextToRun.{search-none, search-hit}
+use Rattle.queue.specs.Standing.{stands-task, and-left, arrivals-long}
+
+-- a number is a ready task's, at a priority
+abbrev pub readyAt : Kernel → ℕ → ℕ → Bool
+readyAt k p u = standsIn k readyQueue u && eqb (numbered (k .tasks .current) ! u) p
+
+-- ---- the first that passes
+
+pub where-yes : (p : ℕ → Bool) (x : ℕ) (xs : List ℕ) → p x ≡ true → firstWhere p (x ∷ xs) ≡ x
+where-yes p x xs e = rw (e, firstWhere)
+
+pub where-no : (p : ℕ → Bool) (x : ℕ) (xs : List ℕ) → p x ≡ false → firstWhere p (x ∷ xs) ≡ firstWhere p xs
+where-no p x xs e = rw (e, firstWhere)
+
+where-select : (f g : ℕ → Bool) (xs : List ℕ) → firstWhere f (select g xs) ≡ firstWhere (λ u. g u && f u) xs
+where-select f g [] = refl
+where-select f g (x ∷ xs) = go (g x) (f x) refl refl (where-select f g xs)
+  where
+    go : (b d : Bool) → g x ≡ b → f x ≡ d → firstWhere f (select g xs) ≡ firstWhere (λ u. g u && f u) xs
+        → firstWhere f (select g (x ∷ xs)) ≡ firstWhere (λ u. g u && f u) (x ∷ xs)
+    go true true e h rest =
+        ap (λ (c : Bool). firstWhere f (keep c x (select g xs))) e ∙ where-yes f x (select g xs) h
+        ∙ sym (where-yes (λ u. g u && f u) x xs (ap (λ (c : Bool). c && f x) e ∙ h))
+    go true false e h rest =
+        ap (λ (c : Bool). firstWhere f (keep c x (select g xs))) e ∙ where-no f x (select g xs) h ∙ rest
+        ∙ sym (where-no (λ u. g u && f u) x xs (ap (λ (c : Bool). c && f x) e ∙ h))
+    go false d e h rest =
+        ap (λ (c : Bool). firstWhere f (keep c x (select g xs))) e ∙ rest
+        ∙ sym (where-no (λ u. g u && f u) x xs (ap (λ (c : Bool). c && f x) e))
+
+module _ (k : Kernel) where
+  abbrev ts : List ℕ
+  ts = select (standsIn k readyQueue) (k .arrivals)
+
+  same-test : (p u : ℕ) → standsIn k readyQueue u && eqb (k .tasks .current ! u) p ≡ readyAt k p u
+  same-test p u = go (standsIn k readyQueue u) refl
+    where
+      go : (b : Bool) → standsIn k readyQueue u ≡ b → b && eqb (k .tasks .current ! u) p ≡ b && eqb (numbered (k .tasks .current) ! u) p
+      go true e = ap (λ (n : ℕ). eqb n p) (sym (numbered-at (k .tasks .current) u (stands-task k readyQueue u e .0)))
+      go false e = refl
+
+  -- one priority's search in the queue is one over all places
+  at-priority : (p : ℕ) → firstWhere (λ u. eqb (k .tasks .current ! u) p) ts ≡ firstWhere (readyAt k p) (k .arrivals)
+  at-priority p =
+      where-select (λ u. eqb (k .tasks .current ! u) p) (standsIn k readyQueue) (k .arrivals)
+      ∙ ap (λ (f : ℕ → Bool). firstWhere f (k .arrivals)) (fun-ext (same-test p))
+
+-- ---- priority by priority
+
+pub record Searching (w : List ℕ) (p : ℕ) : Type 0 where
+  pub start : length w ≡ wordCount
+  pub left : running (kernel w) ≡ searchReady (kernel w .tasks .current) (ts (kernel w)) (countFrom p (suc priorities - p))
+  pub low : 1 ≤ p
+  pub high : p ≤ suc priorities
+
+pub search-start : (w : List ℕ) → length w ≡ wordCount → Searching w 1
+unfolding running nextToRun facts
+search-start w h = record { start = h; left = refl; low = omega arith; high = omega arith }
+
+pub search-done : (w : List ℕ) (p : ℕ) → priorities < p → Searching w p → Nothing ≡ maybeTask (running (kernel w))
+search-done w p h s =
+    let z : suc priorities - p ≡ 0 = omega arith in
+    sym (task-zero (running (kernel w)) (s .left ∙ ap (λ (n : ℕ). searchReady (kernel w .tasks .current) (ts (kernel w)) (countFrom p n)) z))
+
+-- ---- and place by place
+
+pub record Looking (w : List ℕ) (p i : ℕ) : Type 0 where
+  pub searching : Searching w p
+  pub inside : p ≤ priorities
+  pub rest : firstWhere (readyAt (kernel w) p) (kernel w .arrivals) ≡ firstWhere (readyAt (kernel w) p) (drop i (kernel w .arrivals))
+  pub few : i ≤ tasks
+
+pub look-start : (w : List ℕ) (p : ℕ) → p ≤ priorities → Searching w p → Looking w p 0
+look-start w p h s = record { searching = s; inside = h; rest = refl; few = omega arith }
+
+module _ (w : List ℕ) (p i : ℕ) (l : Looking w p i) where
+  pub here : i < tasks → drop i (kernel w .arrivals) ≡ kernel w .arrivals ! i ∷ drop (i + 1) (kernel w .arrivals)
+  here h = drop-cons (kernel w .arrivals) i 0 (let n = arrivals-long w (l .searching .start) in omega arith) ∙ ap (λ (n : ℕ). kernel w .arrivals ! i ∷ drop n (kernel w .arrivals)) (sym (add-one i))
+
+  pub look-more : i < tasks → (u : ℕ) → u ≡ kernel w .arrivals ! i → readyAt (kernel w) p u ≡ false → Looking w p (i + 1)
+  look-more h u e f =
+      record {
+        searching = l .searching;
+        inside = l .inside;
+        rest =
+            l .rest ∙ ap (firstWhere (readyAt (kernel w) p)) (here h)
+            ∙ where-no (readyAt (kernel w) p) (kernel w .arrivals ! i) (drop (i + 1) (kernel w .arrivals)) (ap (readyAt (kernel w) p) (sym e) ∙ f);
+        few = omega arith;
+      }
+
+  -- the priorities from p on, p first
+  row : countFrom p (suc priorities - p) ≡ p ∷ countFrom (suc p) (priorities - p)
+  row = let h = l .inside in let e : suc priorities - p ≡ suc (priorities - p) = omega arith in ap (countFrom p) e
+
+  pub look-done : tasks ≤ i → Searching w (p + 1)
+  look-done h =
+      record {
+        start = l .searching .start;
+        left =
+            l .searching .left ∙ ap (searchReady (kernel w .tasks .current) (ts (kernel w))) row
+            ∙ search-none (kernel w .tasks .current) (ts (kernel w)) p (countFrom (suc p) (priorities - p)) nobody
+            ∙ ap₂ (λ (a n : ℕ). searchReady (kernel w .tasks .current) (ts (kernel w)) (countFrom a n)) (sym (add-one p)) fewer;
+        low = omega arith;
+        high = let k = l .inside in omega arith;
+      }
+    where
+      fewer : priorities - p ≡ suc priorities - (p + 1)
+      fewer = omega arith
+
+      nobody : firstWhere (λ u. eqb (kernel w .tasks .current ! u) p) (ts (kernel w)) ≡ 0
+      nobody =
+          at-priority (kernel w) p ∙ l .rest
+          ∙ ap (firstWhere (readyAt (kernel w) p)) (drop-of-length-le (kernel w .arrivals) {i = i} (let n = arrivals-long w (l .searching .start) in omega arith))
+
+  pub look-hit : i < tasks → (u : ℕ) → u ≡ kernel w .arrivals ! i → readyAt (kernel w) p u ≡ true → maybeTask (wordNumber u tasks) ≡ maybeTask (running (kernel w))
+  look-hit h u e f = ap maybeTask (word-in-range tasks u (task .1) ∙ sym runs)
+    where
+      task : (1 ≤ u) × (u ≤ tasks)
+      task = stands-task (kernel w) readyQueue u (and-left _ _ f)
+
+      found : firstWhere (λ v. eqb (kernel w .tasks .current ! v) p) (ts (kernel w)) ≡ u
+      found =
+          at-priority (kernel w) p ∙ l .rest ∙ ap (firstWhere (readyAt (kernel w) p)) (here h)
+          ∙ where-yes (readyAt (kernel w) p) (kernel w .arrivals ! i) (drop (i + 1) (kernel w .arrivals)) (ap (readyAt (kernel w) p) (sym e) ∙ f) ∙ sym e
+
+      there : u ≢ 0
+      there = let a = task .0 in omega arith
+
+      runs : running (kernel w) ≡ u
+      runs =
+          l .searching .left ∙ ap (searchReady (kernel w .tasks .current) (ts (kernel w))) row
+          ∙ search-hit (kernel w .tasks .current) (ts (kernel w)) p (countFrom (suc p) (priorities - p)) u there found
