@@ -1,0 +1,7 @@
+pub mod Signed
+pub mod Appending
+pub mod Padding
+pub mod Making
+pub mod Rows
+pub mod Reading
+pub mod Writing
