@@ -1,13 +1,17 @@
 -- Laws of bytes in an area: what an append leaves with room and without, and that two appends in a row are one. Assumes nothing.
 use Prim.Native.Nat.{ℕ, _+_, _≤_, _<_}
+use native.Mathlib.Nat.{add-zero, zero-add}
 use native.Mathlib.Omega.{arith}
-use mathlib.Core.Path.{_≡_, _∙_, sym, ap}
-use mathlib.Core.Bool.{true, false}
-use mathlib.Core.List.{List, _++_, append-assoc}
+use mathlib.Core.Path.{_≡_, _∙_, refl, sym, ap}
+use mathlib.Core.Bool.{Bool, true, false, cond}
+use mathlib.Core.List.{List, [], _++_, append-assoc}
 use lib.ListN.{length, take, drop, length-append}
-use lib.Seq.{paste, length-paste, take-paste, drop-paste, take-length, drop-drop}
+use lib.Seq.{paste, paste-zero, length-paste, take-paste, drop-paste, take-length, drop-drop}
 use borrow.Author.Tests.{le-leb, lt-leb}
+use Rattle.model.specs.World.{Ended}
+use Rattle.model.specs.Log.{endedBytes, deliveryBytes}
 use Rattle.script.specs.Place.{room, over, placed, nextPlace, Appends}
+use Rattle.script.specs.Item.{endedWith}
 
 -- the whole of the bytes, as a copy of their full length
 pub over-paste : (area : List ℕ) (at : ℕ) (bytes : List ℕ) → paste area at bytes (length bytes) ≡ over area at bytes
@@ -70,3 +74,32 @@ module _ (area : List ℕ) (at : ℕ) (a b : List ℕ) (h : at + length a + leng
       appended area at (a ++ b) end n (omega (arith, size))
       (q .area ∙ placed-room mid m b fit ∙ ap (λ (l : List ℕ). over l m b) ea ∙ ap (λ (k : ℕ). over (over area at a) k b) em ∙ over-append)
       (q .place ∙ next-room mid m b fit ∙ omega (arith, size))
+
+-- no bytes change nothing, with room or without
+module _ (area : List ℕ) (at : ℕ) where
+  over-none : over area at [] ≡ area
+  unfolding over
+  over-none = sym (paste-zero area at [])
+
+  either : (has : Bool) → (cond has (over area at []) area ≡ area) × (cond has (at + 0) at ≡ at)
+  either true = (over-none, add-zero at)
+  either false = (refl, refl)
+
+  pub none : Appends area at [] area at
+  unfolding placed nextPlace
+  none = let e = either (room (length area) at 0) in record { area = sym (e .0); place = sym (e .1) }
+
+-- an append at the front of an area, as the definition of a record's log has it
+pub front : (area bytes after : List ℕ) (next : ℕ) → length bytes ≤ length area → Appends area 0 bytes after next
+    → (after ≡ bytes ++ drop (length bytes) area) × (next ≡ length bytes)
+unfolding over
+front area bytes after next h p =
+    let fits : 0 + length bytes ≤ length area = omega arith in (
+      p .area ∙ placed-room area 0 bytes fits ∙ ap (λ (n : ℕ). bytes ++ drop n area) (zero-add (length bytes)),
+      p .place ∙ next-room area 0 bytes fits ∙ zero-add (length bytes),
+    )
+
+-- an ended wait is logged as its code, and then what it delivers
+pub ended-parts : (e : Ended) → endedBytes e ≡ endedBytes (endedWith (e .task) (e .code)) ++ deliveryBytes (e .task) (e .delivery)
+unfolding endedBytes deliveryBytes
+ended-parts e = refl

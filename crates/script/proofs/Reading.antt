@@ -10,13 +10,14 @@ use lib.ListN.{length, take, drop, length-drop, drop-of-length-le}
 use lib.Seq.{drop-cons, drop-drop, getD-take}
 use lib.Dec.{leb}
 use lib.IntN.{ℤ}
-use borrow.Author.Tests.{le-leb, lt-leb}
+use borrow.Author.Tests.{le-leb, lt-leb, leb-true}
 use Rattle.model.specs.declared.call.Call.{Call}
+use Rattle.model.specs.declared.call.Cursor.{Cursor}
 use Rattle.model.specs.declared.call.Read.{Read}
 use Rattle.model.specs.declared.call.Read.the-variants.{Record, Stop}
 use Rattle.model.specs.Lists.{_!_}
 use Rattle.model.specs.Record.{Row, kinds, rowOf, field, readHere, readRecord, messageHere, messageAt}
-use Rattle.script.specs.Body.{fieldAt, made, callIn}
+use Rattle.script.specs.Body.{made, callIn}
 use Rattle.script.proofs.Rows.{Known, KnownParts, fields-fit, made-of-three, call-agrees}
 
 -- a kind's row and the bytes behind the kind, as the definitions read them
@@ -75,6 +76,34 @@ module _ (at kind : ℕ) (body : List ℕ) where
         ∙ call-agrees kind r e f (field body) (λ i k. field-take body (r .body) i (omega (arith, fields-fit kind r e)))
         in
         ap (λ (x : Call). Record x (record { at = suc (at + r .body) })) c ∙ sym (whole-here h)
+
+-- what is known where a record is read
+pub record WasRead (at kind : ℕ) (body : List ℕ) (call : Call) (next : Cursor) : Type 0 where
+  pub row : Row
+  pub is : rowOf kind ≡ some row
+  pub fits : row .body ≤ length body
+  pub made : row .call (field body) ≡ call
+  pub end : suc (at + row .body) ≡ next .at
+
+module _ (at kind : ℕ) (body : List ℕ) (call : Call) (next : Cursor) where
+  abbrev Found : Option Row → Type 0
+  Found found = recordOf at body found ≡ Record call next → rowOf kind ≡ found → WasRead at kind body call next
+
+  fitted : (r : Row) (fits : Bool) → leb (r .body) (length body) ≡ fits
+      → elim fits [ true ↦ Record (r .call (field body)) (record { at = suc (at + r .body) }) | false ↦ Stop at ] ≡ Record call next
+      → rowOf kind ≡ some r → WasRead at kind body call next
+  fitted r true h e is =
+      let n : _≡_ {A = Cursor} (record { at = suc (at + r .body) }) next = cc in
+      record { row = r; is = is; fits = leb-true (r .body) (length body) h; made = cc; end = ap (λ (x : Cursor). x .at) n }
+  fitted r false h e is = absurd (let z : _≡_ {A = ℕ} 0 1 = cc in omega arith)
+
+  found : (row : Option Row) → Found row
+  found none e is = absurd (let z : _≡_ {A = ℕ} 0 1 = cc in omega arith)
+  found (some r) e is = fitted r (leb (r .body) (length body)) refl e is
+
+  pub was-read : readHere at (kind ∷ body) ≡ Record call next → WasRead at kind body call next
+  unfolding readHere
+  was-read e = found (rowOf kind) e refl
 
 -- a script's bytes from a place on
 module _ (script : List ℕ) (at : ℕ) where

@@ -10,6 +10,7 @@ use lib.IntN.{ℤ}
 use borrow.Author.Tests.{eqb-true, leb-true}
 use Rattle.model.specs.declared.kind.BodyLength.{BodyLength}
 use Rattle.model.specs.declared.kind.BodyLength.the-variants.{Bytes, Unknown}
+use Rattle.model.specs.Sizes.{messageBytes}
 use Rattle.model.specs.Lists.{countFrom}
 use Rattle.model.specs.Record.{Row, kinds, lookup, rowOf, bodyLength, kindOf, fieldsOf}
 use Rattle.script.specs.declared.body.Body.{Body}
@@ -116,17 +117,17 @@ module _ (kind : ℕ) (r : Row) (found : rowOf kind ≡ some r) where
   unfolding rowOf kinds
   fields-fit = leb-true (4 * r .fields) (r .body) (agree (λ (x : Row). leb (4 * x .fields) (x .body)) (λ (x : Row). true) kind r kinds refl found)
 
-  pub body-short : r .body ≤ 44
+  pub body-short : r .body ≤ 255
   unfolding rowOf kinds
-  body-short = leb-true (r .body) 44 (agree (λ (x : Row). leb (x .body) 44) (λ (x : Row). true) kind r kinds refl found)
+  body-short = leb-true (r .body) 255 (agree (λ (x : Row). leb (x .body) 255) (λ (x : Row). true) kind r kinds refl found)
 
   pub fields-few : r .fields ≤ 3
   unfolding rowOf kinds
   fields-few = leb-true (r .fields) 3 (agree (λ (x : Row). leb (x .fields) 3) (λ (x : Row). true) kind r kinds refl found)
 
-  pub message-size : r .body - 4 * r .fields ≡ cond (eqb (r .kind) 0x22) 32 0
+  pub message-size : r .body - 4 * r .fields ≡ cond (eqb (r .kind) 0x22) messageBytes 0
   unfolding rowOf kinds
-  message-size = agree (λ (x : Row). x .body - 4 * x .fields) (λ (x : Row). cond (eqb (x .kind) 0x22) 32 0) kind r kinds refl found
+  message-size = agree (λ (x : Row). x .body - 4 * x .fields) (λ (x : Row). cond (eqb (x .kind) 0x22) messageBytes 0) kind r kinds refl found
 
   pub kind-made : (f : ℕ → ℤ) → kindOf (r .call f) ≡ r .kind
   unfolding rowOf kinds kindOf

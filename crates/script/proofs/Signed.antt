@@ -1,14 +1,26 @@
--- Signed numbers of 32 bits: the definition's `signed` and `bits` are inverse to each other. Assumes nothing.
-use Prim.Native.Nat.{ℕ, zero, suc, _+_, _-_, _^_, _≤_, _<_}
+-- Signed numbers of 32 bits: as the machine has them, and the definition's `signed` and `bits`, which are inverse to each other.
+-- Assumes nothing.
+use Prim.Native.Nat.{ℕ, zero, suc, _-_, _^_, _≤_, _<_}
 use native.Mathlib.Nat.{zero-add, not-suc-le-zero}
 use native.Mathlib.Omega.{arith}
-use mathlib.Core.Path.{_≡_, _∙_, refl, sym, ap}
+use mathlib.Core.Path.{_≡_, _∙_, refl, ap}
+use mathlib.Core.List.{List}
 use mathlib.Core.Bool.{Bool, true, false, true≢false}
 use lib.IntN.{ℤ, pos, negsuc, _-ℤ_}
 use lib.Signed.{mag, ltZ}
 use lib.Dec.{ltb}
+use mir.Syntax.{w32}
+use mir.Val.{toZ, ofZ}
+use mir.Facts.{toZ-ofZ}
 use borrow.Author.Tests.{lt-ltb, le-ltb, ltb-true, ltb-false}
-use Rattle.model.specs.Code.{minus, signed, bits}
+use Rattle.model.specs.Code.{minus, signed, bits, codeBytes}
+
+-- a signed number as the machine reads it back from its bits, and its bytes
+pub read-back : (z : ℤ) → mag z < 2 ^ 31 → toZ w32 (ofZ w32 z) ≡ z
+read-back z h = toZ-ofZ {w = w32} {z = z} (record { sfits = h })
+
+pub bytes-of : (z : ℤ) (bytes : List ℕ) → mag z < 2 ^ 31 → bytes ≡ codeBytes (toZ w32 (ofZ w32 z)) → bytes ≡ codeBytes z
+bytes-of z bytes h e = e ∙ ap codeBytes (read-back z h)
 
 -- -1 - m, for m from 0 on and below it
 pub less-than-minus-one : (m : ℕ) → negsuc 0 -ℤ pos m ≡ negsuc m

@@ -1,15 +1,14 @@
 -- Laws of writing: a call's row, a record's bytes, and what becomes of a record. Assumes nothing.
 use Prim.Native.Nat.{ℕ, suc, _+_, _*_, _-_, _≤_, _<_}
-use native.Mathlib.Nat.{not-suc-le-zero}
 use native.Mathlib.Omega.{arith}
 use mathlib.Core.Path.{_≡_, _∙_, refl, sym, ap}
 use mathlib.Core.Bool.{Bool, true, false, cond}
 use mathlib.Core.List.{List, [], _∷_, _++_, map}
 use mathlib.Core.Option.{Option, none, some}
 use lib.ListN.{length, take, length-append}
-use lib.Dec.{eqb, leb}
+use lib.Dec.{eqb}
 use lib.IntN.{ℤ}
-use borrow.Author.Tests.{eq-eqb, ne-eqb, le-leb, lt-leb}
+use borrow.Author.Tests.{eq-eqb, ne-eqb, le-leb, lt-leb, eqb-true, leb-true}
 use Rattle.model.specs.declared.call.Call.{Call}
 use Rattle.model.specs.declared.call.Call.the-variants.{CreTsk, DelTsk, StaTsk, ExtTsk, TerTsk, ChgPri, CreMtx, DelMtx, LocMtx, UnlMtx, CreMbf, DelMbf, SndMbf, RcvMbf, CreMpf, DelMpf, GetMpf, RelMpf, Tick}
 use Rattle.model.specs.Lists.{joined}
@@ -81,7 +80,7 @@ head-begins c =
     let e : 1 + 4 * length (fieldsOf c) ≡ suc (4 * length (fieldsOf c)) = omega arith in
     ap (λ (n : ℕ). take n (headBytes (headOf c))) e ∙ ap (λ (bytes : List ℕ). kindOf c ∷ bytes) (three (fieldsOf c) (few c))
 
-length-fields : (fs : List ℤ) → length (joined (map codeBytes fs)) ≡ 4 * length fs
+pub length-fields : (fs : List ℤ) → length (joined (map codeBytes fs)) ≡ 4 * length fs
 length-fields [] = refl
 length-fields (f ∷ fs) = omega (arith, length-fields fs)
 
@@ -138,6 +137,33 @@ module _ (area : List ℕ) (at : ℕ) (c : Call) (message : List ℕ) where
           answer = ap Next (p .place ∙ next-room area at (recordBytes c message) h) ∙ w .answer;
           area = p .area ∙ placed-room area at (recordBytes c message) h ∙ w .area;
         }
+
+-- what is known where a record is written
+pub record WasWritten (area : List ℕ) (at : ℕ) (c : Call) (message after : List ℕ) (next : ℕ) : Type 0 where
+  pub size : length message ≡ messageLength (kindOf c)
+  pub fits : at + length (recordBytes c message) ≤ length area
+  pub end : at + length (recordBytes c message) ≡ next
+  pub is : after ≡ over area at (recordBytes c message)
+
+module _ (area : List ℕ) (at : ℕ) (c : Call) (message after′ : List ℕ) (next : ℕ) (is : after′ ≡ over area at (recordBytes c message)) where
+  abbrev n′ : ℕ
+  n′ = length (recordBytes c message)
+
+  roomy : (has : Bool) → room (length area) at n′ ≡ has → length message ≡ messageLength (kindOf c)
+      → Next next ≡ cond has (Next (at + n′)) NoRoom → WasWritten area at c message after′ next
+  roomy true h size e = record { size = size; fits = leb-true (at + n′) (length area) h; end = cc; is = is }
+  roomy false h size e = absurd (let z : _≡_ {A = ℕ} 0 1 = cc in omega arith)
+
+  right-size : (right : Bool) → eqb (length message) (messageLength (kindOf c)) ≡ right → Next next ≡ sized area at c message right
+      → WasWritten area at c message after′ next
+  right-size true h e = roomy (room (length area) at n′) refl (eqb-true (length message) (messageLength (kindOf c)) h) e
+  right-size false h e = absurd (let z : _≡_ {A = ℕ} 0 1 = cc in omega arith)
+
+pub was-written : (area : List ℕ) (at : ℕ) (c : Call) (message after′ : List ℕ) (next : ℕ)
+    → Writes area at c message after′ (Next next) → WasWritten area at c message after′ next
+unfolding wrote rewritten
+was-written area at c message after′ next w =
+    right-size area at c message after′ next (w .area ∙ ap (after area at c message) (sym (w .answer))) _ refl (w .answer)
 
 some-inj : {r x : Row} → _≡_ {A = Option Row} (some r) (some x) → r ≡ x
 some-inj e = cc

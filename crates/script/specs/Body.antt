@@ -1,6 +1,6 @@
 -- The table of kinds as the reader and the writer use it.
 use Prim.Native.Nat.{ℕ, _*_, _-_}
-use mathlib.Core.List.{List, [], _∷_}
+use mathlib.Core.List.{List}
 use mathlib.Core.Option.{Option, none, some}
 use lib.ListN.{getD, drop}
 use lib.IntN.{ℤ, pos}

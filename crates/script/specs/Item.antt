@@ -3,11 +3,10 @@ use Prim.Native.Nat.{ℕ}
 use mathlib.Core.List.{List, [], _∷_}
 use lib.IntN.{ℤ}
 use Rattle.model.specs.World.{Ended, Nothing}
-use Rattle.model.specs.Log.{endedBytes}
 
 -- "83 + task (1) + code (4)": an ended wait, before what it delivers
-abbrev pub codeOf : ℕ → ℤ → Ended
-codeOf task code = record { task = task; code = code; delivery = Nothing }
+abbrev pub endedWith : ℕ → ℤ → Ended
+endedWith task code = record { task = task; code = code; delivery = Nothing }
 
 -- "A script above 16,384 bytes logs 8D alone."
 abbrev pub tooLongBytes : List ℕ

@@ -14,7 +14,7 @@ ghost use Rattle.model.specs.World.{Message, Block};
 ghost use Rattle.model.specs.Log.{answerBytes, endedBytes, deliveryBytes, runsBytes};
 ghost use Rattle.model.specs.Script.{stopBytes};
 ghost use Rattle.script.specs.Place.{Appends};
-ghost use Rattle.script.specs.Item.{codeOf, tooLongBytes};
+ghost use Rattle.script.specs.Item.{endedWith, tooLongBytes};
 
 // What the call is answered with.
 pub fn log_answer(area: &mut [u8], at: usize, answer: Answer) -> usize
@@ -29,7 +29,7 @@ pub fn log_answer(area: &mut [u8], at: usize, answer: Answer) -> usize
 
 // A wait that has ended with a code, before what it delivers.
 pub fn log_ended(area: &mut [u8], at: usize, task: u8, code: i32) -> usize
-    ensures { λ r. ⌜ Appends (now (area .entry)) at (endedBytes (codeOf task code)) (now (area .exit)) r ⌝ }
+    ensures { λ r. ⌜ Appends (now (area .entry)) at (endedBytes (endedWith task code)) (now (area .exit)) r ⌝ }
 {
     put_two(area, at, &[0x83, task], &field_bytes(code))
 }

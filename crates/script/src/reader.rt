@@ -31,6 +31,7 @@ pub fn read_record(script: &[u8], c: Cursor) -> Read
         return Read::Stop { offset: at };
     }
     let end = start + length;
+    // a field that the body does not have reads as 0, and the kind's call has no use for it
     let body = &script[start..end];
     let call = call_of(kind, field(body, 0), field(body, 1), field(body, 2));
     Read::Record {

@@ -20,6 +20,7 @@ pub fn write_record(area: &mut [u8], at: usize, call: Call, message: &[u8]) -> W
     ensures { λ r. ⌜ Writes (now (area .entry)) at call (now (message .entry)) (now (area .exit)) r ⌝ }
 {
     let head = head_of(call);
+    // every call's kind is in the table
     let Body::Parts {
         fields,
         message: size,
@@ -39,7 +40,7 @@ pub fn write_record(area: &mut [u8], at: usize, call: Call, message: &[u8]) -> W
 }
 
 // A call's kind and fields, 0 for each field fewer than three.
-pub struct Head(u8, i32, i32, i32);
+struct Head(u8, i32, i32, i32);
 
 fn head_of(call: Call) -> Head
     ensures { λ r. ⌜ r ≡ headOf call ⌝ }

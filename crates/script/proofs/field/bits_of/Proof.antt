@@ -1,9 +1,8 @@
 -- `bits_of` meets its contract: the sign picks the case, and what the machine reads back of a signed number is the number. Assumes nothing.
 use native.Mathlib.Omega.{arith}
-use mathlib.Core.Path.{_≡_, _∙_, ap}
-use mathlib.Core.Bool.{true, false}
-use lib.IntN.{ℤ, pos, negsuc, natAbs, _-ℤ_}
-use lib.Signed.{ltZ, mag}
+use mathlib.Core.Path.{_≡_, _∙_}
+use lib.IntN.{ℤ, pos, negsuc, _-ℤ_}
+use lib.Signed.{mag}
 use mir.Syntax.{w32}
 use mir.Val.{SFits, toZ, ofZ}
 use mir.Facts.{toZ-ofZ}
@@ -11,8 +10,6 @@ use Rattle.model.specs.Code.{bits}
 use Rattle.script.proofs.Signed.{from-minus-one, bits-below, from-zero}
 use Rattle.script.proofs.field.bits_of.Statement.{statement}
 use Rattle.script.proofs.field.bits_of.Tie as tie
-use Rattle.script.proofs.field.bits_of.Reads as reads
-use Rattle.script.proofs.field.bits_of.Lts as lts
 
 module _ (c : tie.Then1) where
   abbrev z : ℤ

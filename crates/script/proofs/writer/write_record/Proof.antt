@@ -1,3 +1,4 @@
+-- `write_record` meets its contract: the parts of the body are those of the call's kind, and the bytes put into the area are the record's. Assumes nothing.
 use Prim.Native.Nat.{ℕ, _+_, _*_, _≤_}
 use native.Mathlib.Omega.{arith}
 use mathlib.Core.Path.{_≡_, _∙_, sym, ap}
@@ -15,13 +16,6 @@ use Rattle.script.proofs.Rows.{none-is-not-some, KnownParts, row-of-par
 use Rattle.script.proofs.Writing.{call-row, few, head-begins, record-length, wrong, no-room, appended, fields-of-call, message-of-call}
 use Rattle.script.proofs.writer.write_record.Statement.{statement}
 use Rattle.script.proofs.writer.write_record.Tie as tie
-use Rattle.script.proofs.writer.write_record.Reads as reads
-use Rattle.script.proofs.writer.write_record.Lts as lts
-use Rattle.script.proofs.body.body_parts.Reads as body-parts-reads
-use Rattle.script.proofs.place.put_two.Reads as put-two-reads
-use Rattle.script.proofs.place.room.Reads as room-reads
-use Rattle.script.proofs.writer.head_bytes.Reads as head-bytes-reads
-use Rattle.script.proofs.writer.head_of.Reads as head-of-reads
 
 abbrev start : tie.After-body-parts → tie.Start
 start c = c .before .before .before .before
@@ -69,49 +63,39 @@ module _ (c : tie.After-head-bytes) where
   bytes-are message =
       ap (λ (bytes : List ℕ). bytes ++ message)
       (ap (take (1 + fields known)) (c .head-bytes .ensures ∙ ap headBytes (known .before .before .before .before .head-of .ensures))
-        ∙ ap (λ (n : ℕ). take (1 + n) (headBytes (headOf (call known)))) (fields-are known)
-        ∙ head-begins (call known))
+      ∙ ap (λ (n : ℕ). take (1 + n) (headBytes (headOf (call known)))) (fields-are known)
+      ∙ head-begins (call known))
 
--- src/writer.rt:22:9
 head-of-requires : tie.Need-head-of-requires
 head-of-requires c κs = search needs
 
--- src/writer.rt:26:9
 body-parts-requires : tie.Need-body-parts-requires
 body-parts-requires c κs = search needs
 
--- src/writer.rt:24:9
 enum-known-fields : tie.Need-enum-known-fields
 enum-known-fields c = search needs
 
--- src/writer.rt:28:9
 enum-told : tie.Need-enum-told
 enum-told c = search needs
 
--- src/writer.rt:28:9
 returns : tie.Need-returns
 returns c =
     let x = c .before .before in
     let r = call-row (start x .args .call) in
     absurd (none-is-not-some (r .row) (sym (row-of-no-parts _ (sym (split x) ∙ c .enum-told .given .1)) ∙ r .is))
 
--- src/writer.rt:31:9
 returns-2 : tie.Need-returns-2
 returns-2 c = wrong _ _ _ _ (λ e. c .if1 .taken (e ∙ sym (size-is (c .before))))
 
--- src/writer.rt:33:18
 add-length : tie.Need-add-length
 add-length c = omega (arith, fields-are (c .before), few (call (c .before)))
 
--- src/writer.rt:34:30
 add-room : tie.Need-add-room
 add-room c = omega (arith, fields-are (c .before), few (call (c .before)), start (c .before .before .before .before) .good)
 
--- src/writer.rt:34:9
 room-requires : tie.Need-room-requires
 room-requires c κs = search needs
 
--- src/writer.rt:35:9
 returns-3 : tie.Need-returns-3
 returns-3 c =
     let x = c .before .before .before in
@@ -119,34 +103,28 @@ returns-3 c =
     no-room (a .area .now) (a .at) (a .call) (a .message .now) (c .before .before .if1 .left ∙ size-is x)
     (rw (← length-is x (a .message .now)) (leb-false _ _ (sym (c .before .room .ensures) ∙ not-true _ (c .if2 .taken))))
 
--- src/writer.rt:37:17
 head-bytes-requires : tie.Need-head-bytes-requires
 head-bytes-requires c κs = search needs
 
--- src/writer.rt:38:35
 array-share-prefix-bytes : tie.Need-array-share-prefix-bytes
 array-share-prefix-bytes c = begin (c .before)
 
--- src/writer.rt:38:35
 slice-aggregate-put-two : tie.Need-slice-aggregate-put-two
 slice-aggregate-put-two c = sym (length-take-le _ (c .before .before .head-bytes .result) (begin (c .before .before)))
 
--- src/writer.rt:38:17
 put-two-requires : tie.Need-put-two-requires
 put-two-requires c κs = search needs
 
--- src/writer.rt:19:1
 same-length : tie.Need-same-length
 same-length c = search needs
 
--- src/writer.rt:19:1
 returns-4 : tie.Need-returns-4
 returns-4 c =
     let b = c .before .before .before .before .before in
     let x = known b in
     let a = start (x .before .before .before) .args in
     let fits : a .at + length (recordBytes (a .call) (a .message .now)) ≤ length (a .area .now) =
-      rw (← length-is x (a .message .now)) (leb-true _ _ (sym (b .before .before .room .ensures) ∙ not-false _ (b .before .if2 .left)))
+    rw (← length-is x (a .message .now)) (leb-true _ _ (sym (b .before .before .room .ensures) ∙ not-false _ (b .before .if2 .left)))
     in
     appended (a .area .now) (a .at) (a .call) (a .message .now) (b .before .before .before .if1 .left ∙ size-is x) _ _ fits
     (rw (bytes-are b (a .message .now)) at (c .before .before .put-two .ensures))
