@@ -1,0 +1,32 @@
+-- `signed_number` meets its contract: the upper half of the bits counts down from -1. Assumes nothing.
+use mathlib.Core.Path.{_∙_, sym}
+use mir.Syntax.{w32}
+use mir.Facts.{toZ-pos, toZ-ofZ}
+use borrow.Author.Needs.{needs}
+use Rattle.script.proofs.Signed.{less-than-minus-one, signed-low, signed-high}
+use Rattle.script.proofs.field.signed_number.Statement.{statement}
+use Rattle.script.proofs.field.signed_number.Tie as tie
+
+cast-result : tie.Need-cast-result
+cast-result c = search needs
+
+sub-result : tie.Need-sub-result
+sub-result c = search needs
+
+cast-result-2 : tie.Need-cast-result-2
+cast-result-2 c = search needs
+
+sub-result-2 : tie.Need-sub-result-2
+sub-result-2 c = rw (toZ-pos w32 (cast-result-2 c .sfits), less-than-minus-one) (record { sfits = cast-result-2 c .sfits })
+
+returns : tie.Need-returns
+returns c = toZ-pos w32 (c .if1 .taken) ∙ sym (signed-low _ (c .if1 .taken))
+
+returns-2 : tie.Need-returns-2
+returns-2 c =
+    toZ-ofZ (sub-result-2 c)
+    ∙ rw (toZ-pos w32 (cast-result-2 c .sfits), less-than-minus-one) (sym (signed-high (c .before .args .n) (c .if1 .left) (c .before .fits .n .fits)))
+
+pub signed-number-spec : {M : Type 1} → statement M
+signed-number-spec =
+    tie.close (tie.spec cast-result sub-result cast-result-2 sub-result-2 returns returns-2)

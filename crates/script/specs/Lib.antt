@@ -1,0 +1,4 @@
+pub mod Place
+pub mod Item
+pub mod Body
+pub mod Write

@@ -1,0 +1,28 @@
+-- Bytes in a lent area: they go to a place whole, and every other byte stays as it came; or nothing is written.
+use Prim.Native.Nat.{ℕ, _+_}
+use mathlib.Core.Path.{_≡_}
+use mathlib.Core.Bool.{Bool, cond}
+use mathlib.Core.List.{List, _++_}
+use lib.ListN.{length, take, drop}
+use lib.Dec.{leb}
+
+-- there is room for n bytes from a place on
+abbrev pub room : ℕ → ℕ → ℕ → Bool
+room size at n = leb (at + n) size
+
+-- the area with bytes at a place
+unfoldable pub over : List ℕ → ℕ → List ℕ → List ℕ
+over area at bytes = take at area ++ bytes ++ drop (at + length bytes) area
+
+-- the same where there is room for them, else the area as it came
+unfoldable pub placed : List ℕ → ℕ → List ℕ → List ℕ
+placed area at bytes = cond (room (length area) at (length bytes)) (over area at bytes) area
+
+-- the place after them, or the place as it was
+unfoldable pub nextPlace : List ℕ → ℕ → List ℕ → ℕ
+nextPlace area at bytes = cond (room (length area) at (length bytes)) (at + length bytes) at
+
+-- What an append leaves: the area, and the next place.
+pub record Appends (before : List ℕ) (at : ℕ) (bytes after : List ℕ) (next : ℕ) : Type 0 where
+  pub area : after ≡ placed before at bytes
+  pub place : next ≡ nextPlace before at bytes

@@ -1,0 +1,79 @@
+// The items of a log, each appended whole at a place of a lent area; the answer is the next place. An item that does not fit
+// is left out, and the place stays.
+use super::field::field_bytes;
+use super::field::number_bytes;
+use super::place::part;
+use super::place::put;
+use super::place::put_two;
+use model::call::Answer;
+use model::sizes::MESSAGE_BYTES;
+ghost use mathlib.Core.Path.{_≡_};
+ghost use Rattle.model.specs.Sizes.{messageBytes};
+ghost use Rattle.model.specs.Lists.{padded};
+ghost use Rattle.model.specs.World.{Message, Block};
+ghost use Rattle.model.specs.Log.{answerBytes, endedBytes, deliveryBytes, runsBytes};
+ghost use Rattle.model.specs.Script.{stopBytes};
+ghost use Rattle.script.specs.Place.{Appends};
+ghost use Rattle.script.specs.Item.{endedWith, tooLongBytes};
+
+// What the call is answered with.
+pub fn log_answer(area: &mut [u8], at: usize, answer: Answer) -> usize
+    ensures { λ r. ⌜ Appends (now (area .entry)) at (answerBytes answer) (now (area .exit)) r ⌝ }
+{
+    match answer {
+        Answer::Code(code) => put_two(area, at, &[0x80], &field_bytes(code)),
+        Answer::Waits => put(area, at, &[0x81]),
+        Answer::Exits => put(area, at, &[0x82]),
+    }
+}
+
+// A wait that has ended with a code, before what it delivers.
+pub fn log_ended(area: &mut [u8], at: usize, task: u8, code: i32) -> usize
+    ensures { λ r. ⌜ Appends (now (area .entry)) at (endedBytes (endedWith task code)) (now (area .exit)) r ⌝ }
+{
+    put_two(area, at, &[0x83, task], &field_bytes(code))
+}
+
+// A message in as many bytes as a send's record has, zeros behind it.
+fn filled(message: &[u8]) -> [u8; MESSAGE_BYTES]
+    ensures { λ r. ⌜ r ≡ padded messageBytes (now (message .entry)) ⌝ }
+{
+    let mut bytes = [0u8; MESSAGE_BYTES];
+    put(&mut bytes, 0, part(message, 0, MESSAGE_BYTES));
+    bytes
+}
+
+// A message that a task received.
+pub fn log_message(area: &mut [u8], at: usize, task: u8, message: &[u8]) -> usize
+    ensures { λ r. ⌜ Appends (now (area .entry)) at (deliveryBytes task (Message (now (message .entry)))) (now (area .exit)) r ⌝ }
+{
+    put_two(area, at, &[0x84, task], &filled(message))
+}
+
+// A block that a task got.
+pub fn log_block(area: &mut [u8], at: usize, task: u8, block: u32) -> usize
+    ensures { λ r. ⌜ Appends (now (area .entry)) at (deliveryBytes task (Block block)) (now (area .exit)) r ⌝ }
+{
+    put_two(area, at, &[0x85, task], &number_bytes(block as usize))
+}
+
+// The task that runs, 0 for none.
+pub fn log_runs(area: &mut [u8], at: usize, task: u8) -> usize
+    ensures { λ r. ⌜ Appends (now (area .entry)) at (runsBytes task) (now (area .exit)) r ⌝ }
+{
+    put(area, at, &[0x8f, task])
+}
+
+// A script that stops at an offset.
+pub fn log_stop(area: &mut [u8], at: usize, offset: usize) -> usize
+    ensures { λ r. ⌜ Appends (now (area .entry)) at (stopBytes offset) (now (area .exit)) r ⌝ }
+{
+    put_two(area, at, &[0x8e], &number_bytes(offset))
+}
+
+// A script that is too long.
+pub fn log_too_long(area: &mut [u8], at: usize) -> usize
+    ensures { λ r. ⌜ Appends (now (area .entry)) at tooLongBytes (now (area .exit)) r ⌝ }
+{
+    put(area, at, &[0x8d])
+}
