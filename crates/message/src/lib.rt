@@ -1,0 +1,4 @@
+// Messages: how they lie in a buffer's region and in the outbox, and the next one to be received.
+mod copy;
+pub mod region;
+pub mod room;
