@@ -1,31 +1,15 @@
 -- Packing as a run of stores, which is how the code does it. Assumes nothing.
 use Prim.Native.Nat.{ℕ, _+_, _-_, _≤_, min}
-use native.Mathlib.Nat.{min-eq-left}
-use native.Mathlib.Decide.{decLe}
 use native.Mathlib.Omega.{arith}
 use mathlib.Core.Path.{_≡_, _∙_, sym}
-use mathlib.Core.List.{List, _++_}
+use mathlib.Core.List.{List, [], _++_, append-nil}
 use lib.ListN.{length, take, drop, length-append, length-take, length-drop, length-replicate, drop-of-length-le}
 use lib.Seq.{sets, take-all}
-use Rattle.model.specs.Lists.{zeros}
+use Rattle.model.specs.Lists.{zeros, padded}
 use Rattle.model.specs.Code.{bytes4}
 use Rattle.model.specs.Message.{roundedUp, cost, packed, appended, oldestLength, removed}
-use Rattle.message.proofs.Stores.{sets-append, sets-clipped, sets-whole}
-
--- what counts of a length that goes beyond a list
-pub take-min : (n : ℕ) (l : List ℕ) → take (min n (length l)) l ≡ take n l
-take-min n l = go (decLe n (length l))
-  where
-    go : Dec (n ≤ length l) → take (min n (length l)) l ≡ take n l
-    go (yes h) = rw (min-eq-left h)
-    go (no h) = take-all (min n (length l)) l (omega arith) ∙ sym (take-all n l (omega arith))
-
-pub drop-min : (n : ℕ) (l : List ℕ) → drop (min n (length l)) l ≡ drop n l
-drop-min n l = go (decLe n (length l))
-  where
-    go : Dec (n ≤ length l) → drop (min n (length l)) l ≡ drop n l
-    go (yes h) = rw (min-eq-left h)
-    go (no h) = drop-of-length-le l {i = min n (length l)} (omega arith) ∙ sym (drop-of-length-le l {i = n} (omega arith))
+use Rattle.message.proofs.Parts.{take-min, drop-min}
+use Rattle.message.proofs.Stores.{sets-append, sets-clipped, sets-front, sets-whole}
 
 pub appended-sets : (r : List ℕ) (used : ℕ) (m : List ℕ) → appended r used m ≡ sets r used (packed m)
 unfolding appended
@@ -47,3 +31,17 @@ removed-sets r =
     let e : length r - k ≡ 0 + length (drop c r) = omega (arith, length-drop c r) in
     let whole : length (drop c r ++ zeros k) ≡ length r = length-append (drop c r) (zeros k) ∙ rw (length-drop, length-replicate) (omega arith) in
     rw (drop-min c r) (rw e (sym (sets-append (drop c r) (zeros k) r 0) ∙ sets-whole (drop c r ++ zeros k) r whole))
+
+-- bytes at the front of a part, and zeros up to its end, in two steps
+pub padded-sets : (p m : List ℕ) (n : ℕ) → let k = min n (length m) in
+    sets (sets p 0 (take k m)) k (zeros (length p)) ≡ padded (length p) (take n m)
+padded-sets p m n =
+    let xs : List ℕ = take n m in
+    let e : min n (length m) ≡ 0 + length xs = omega (arith, length-take n m) in
+    let long : length p ≤ length (xs ++ zeros (length p)) = rw (length-append, length-replicate) (omega arith) in
+    rw (take-min n m) (rw e
+    (sym (sets-append xs (zeros (length p)) p 0) ∙ sym (sets-front (xs ++ zeros (length p)) p)
+    ∙ rw (drop-of-length-le p long, append-nil)))
+
+pub zeros-padded : (n : ℕ) → zeros n ≡ padded n []
+zeros-padded n = sym (take-all n (zeros n) (rw length-replicate (omega arith)))

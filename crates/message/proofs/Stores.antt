@@ -38,7 +38,7 @@ sets-whole (x ∷ xs) [] e = absurd (omega (arith, e))
 sets-whole (x ∷ xs) (y ∷ l) e = sets-cons xs l x 0 ∙ ap (λ (r : List ℕ). x ∷ r) (sets-whole xs l (omega (arith, e)))
 
 -- Stores as the definitions say them: what was before, the elements, what was behind, and no more than there was room for.
-sets-front : (xs l : List ℕ) → take (length l) (xs ++ drop (length xs) l) ≡ sets l 0 xs
+pub sets-front : (xs l : List ℕ) → take (length l) (xs ++ drop (length xs) l) ≡ sets l 0 xs
 sets-front [] l = take-length l
 sets-front (x ∷ xs) [] = sym (sets-out (x ∷ xs) [] 0 (omega arith))
 sets-front (x ∷ xs) (y ∷ l) = ap (λ (r : List ℕ). x ∷ r) (sets-front xs l) ∙ sym (sets-cons xs l x 0)

@@ -11,7 +11,7 @@ ghost use mathlib.Core.Path.{_≡_};
 ghost use lib.ListN.{length, take, getD};
 ghost use lib.Seq.{sets};
 ghost use Rattle.model.specs.Lists.{zeros};
-ghost use Rattle.model.specs.Message.{packed, appended, oldestLength, removed};
+ghost use Rattle.model.specs.Message.{packed, appended, oldestLength, oldest, removed};
 
 // The first n bytes of m as one packed message at the front of a slice.
 fn pack(r: &mut [u8], m: &[u8], n: usize)
@@ -60,4 +60,13 @@ pub fn clear(r: &mut [u8])
     ensures { λ _. ⌜ now (r .exit) ≡ zeros (length (now (r .entry))) ⌝ }
 {
     fill_zero(r, 0, r.len());
+}
+
+// The oldest message, where it lies.
+pub fn oldest<'a>(r: &'a [u8]) -> &'a [u8]
+    ensures { λ m. ⌜ now m ≡ oldest (now (r .entry)) ⌝ }
+{
+    let a = least(4, r.len());
+    let e = a + least(oldest_length(r) as usize, r.len() - a);
+    &r[a..e]
 }
