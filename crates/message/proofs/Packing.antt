@@ -1,8 +1,8 @@
 -- Packing as a run of stores, which is how the code does it. Assumes nothing.
 use Prim.Native.Nat.{ℕ, _+_, _-_, _≤_, min}
 use native.Mathlib.Omega.{arith}
-use mathlib.Core.Path.{_≡_, _∙_, sym}
 use mathlib.Core.List.{List, [], _++_, append-nil}
+use mathlib.Core.Path.{_≡_, _∙_, sym}
 use lib.ListN.{length, take, drop, length-append, length-take, length-drop, length-replicate, drop-of-length-le}
 use lib.Seq.{sets, take-all}
 use Rattle.model.specs.Lists.{zeros, padded}

@@ -1,10 +1,10 @@
 -- Parts of a list, as the code lends them: within the list, where the definitions may go beyond its end. Assumes nothing.
 use Prim.Native.Nat.{ℕ, pred, _+_, _*_, _-_, _≤_, min}
-use native.Mathlib.Nat.{suc-mul, suc-pred-eq-of-pos, min-eq-left}
 use native.Mathlib.Decide.{decLe}
+use native.Mathlib.Nat.{suc-mul, suc-pred-eq-of-pos, min-eq-left}
 use native.Mathlib.Omega.{arith}
-use mathlib.Core.Path.{_≡_, _∙_, sym, ap}
 use mathlib.Core.List.{List, _++_, append-assoc}
+use mathlib.Core.Path.{_≡_, _∙_, sym, ap}
 use lib.ListN.{length, take, drop, length-take, length-drop, drop-of-length-le}
 use lib.Seq.{take-all, take-take, drop-drop}
 use Rattle.model.specs.Sizes.{regionBytes, messageBytes}
@@ -36,13 +36,13 @@ take-least m n l = go (decLe m n)
         rw e (sym (take-all m (take n l) (rw length-take (omega arith))))
 
 -- a part ends where the next one begins
-next : (size n : ℕ) → 1 ≤ n → pred n * size + size ≡ n * size
-next size n h = sym (suc-mul (pred n) size) ∙ ap (λ (k : ℕ). k * size) (suc-pred-eq-of-pos h)
+pub next-part : (size n : ℕ) → 1 ≤ n → pred n * size + size ≡ n * size
+next-part size n h = sym (suc-mul (pred n) size) ∙ ap (λ (k : ℕ). k * size) (suc-pred-eq-of-pos h)
 
 -- a part that is whole has its full size
 pub part-size : (size n : ℕ) (s : List ℕ) → 1 ≤ n → n * size ≤ length s → length (part size n s) ≡ size
 unfolding part
-part-size size n s h l = rw (length-take, length-drop) (omega (arith, next size n h))
+part-size size n s h l = rw (length-take, length-drop) (omega (arith, next-part size n h))
 
 -- where part n of a list begins and ends, within the list
 pub record Bounds (size n : ℕ) (s : List ℕ) (a e : ℕ) : Type 0 where
@@ -64,7 +64,7 @@ module _ {size n : ℕ} {s : List ℕ} {a e : ℕ} (b : Bounds size n s a e) whe
   behind : 1 ≤ n → drop (e - a) (drop a s) ≡ drop (n * size) s
   behind h =
       rw whole-or-rest
-      (drop-min size (drop a s) ∙ ap (drop size) from-a ∙ drop-drop size (pred n * size) s ∙ ap (λ (k : ℕ). drop k s) (next size n h))
+      (drop-min size (drop a s) ∙ ap (drop size) from-a ∙ drop-drop size (pred n * size) s ∙ ap (λ (k : ℕ). drop k s) (next-part size n h))
 
   -- and the list with another in its place is the definition's, too
   pub part-back : 1 ≤ n → (x : List ℕ) → take a s ++ (x ++ drop (e - a) (drop a s)) ≡ withPart size n s x

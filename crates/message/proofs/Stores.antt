@@ -1,12 +1,12 @@
 -- Stores of a list's elements from a place on, `sets` of `lib.Seq`: what lies beyond the end is left out. And the loops that store them one by
 -- one. Assumes nothing.
 use Prim.Native.Nat.{ℕ, zero, suc, _+_, _-_, _≤_, _<_, min}
-use native.Mathlib.Nat.{add-suc, suc-add, add-zero, zero-add, add-comm}
 use native.Mathlib.Decide.{decLe}
+use native.Mathlib.Nat.{add-suc, suc-add, add-zero, zero-add, add-comm}
 use native.Mathlib.Numerals.{add-one}
 use native.Mathlib.Omega.{arith}
-use mathlib.Core.Path.{_≡_, _∙_, refl, sym, ap}
 use mathlib.Core.List.{List, [], _∷_, _++_, append-nil}
+use mathlib.Core.Path.{_≡_, _∙_, refl, sym, ap}
 use lib.ListN.{length, getD, take, drop, set, length-set, length-drop, drop-of-length-le}
 use lib.Seq.{sets, set-out, take-all, take-length, drop-cons, drop-drop, getD-drop, drop-set-lt}
 

@@ -1,1 +1,2 @@
 pub mod NextMessage
+pub mod Packing

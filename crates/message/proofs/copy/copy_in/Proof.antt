@@ -1,10 +1,11 @@
+-- `copy_in` meets its contract. The loop's invariant says what is left to store; it ends at the end of the message or of the slice. Assumes nothing.
 use Prim.Native.Nat.{_-_, _≤_}
 use native.Mathlib.Omega.{arith}
 use mathlib.Core.Path.{sym}
 use lib.ListN.{take, length-take}
 use lib.Seq.{getD-take}
-use Rattle.message.proofs.Stores.{Left, left-all, left-turn, left-none, sets-out}
 use borrow.Author.Needs.{needs}
+use Rattle.message.proofs.Stores.{Left, left-all, left-turn, left-none, sets-out}
 use Rattle.message.proofs.copy.copy_in.Statement.{statement}
 use Rattle.message.proofs.copy.copy_in.Tie as tie
 

@@ -1,10 +1,11 @@
+-- `fill_zero` meets its contract. The loop's invariant says what is left to store. Assumes nothing.
 use Prim.Native.Nat.{_-_, _≤_}
 use native.Mathlib.Omega.{arith}
 use mathlib.Core.Path.{sym}
 use lib.ListN.{length-replicate, getD-replicate}
+use borrow.Author.Needs.{needs}
 use Rattle.model.specs.Lists.{zeros}
 use Rattle.message.proofs.Stores.{Left, left-all, left-turn, left-none, sets-out}
-use borrow.Author.Needs.{needs}
 use Rattle.message.proofs.copy.fill_zero.Statement.{statement}
 use Rattle.message.proofs.copy.fill_zero.Tie as tie
 

@@ -1,3 +1,4 @@
+-- `put` meets its contract: beyond the end `set` changes nothing. Assumes nothing.
 use mathlib.Core.Path.{sym}
 use lib.Seq.{set-out}
 use borrow.Author.Needs.{needs}

@@ -1,3 +1,4 @@
+-- `put_length` meets its contract: four stores, as `sets` computes them. Assumes nothing.
 use borrow.Author.Needs.{needs}
 use Rattle.message.proofs.copy.put_length.Statement.{statement}
 use Rattle.message.proofs.copy.put_length.Tie as tie

@@ -1,8 +1,9 @@
+-- `shift` meets its contract. The loop's invariant says what is left to move, and that what has yet to be read is as it was. Assumes nothing.
 use Prim.Native.Nat.{_-_, _≤_}
 use native.Mathlib.Omega.{arith}
 use lib.ListN.{drop-of-length-le}
-use Rattle.message.proofs.Stores.{Moved, moved-none, moved-turn, moved-all}
 use borrow.Author.Needs.{needs}
+use Rattle.message.proofs.Stores.{Moved, moved-none, moved-turn, moved-all}
 use Rattle.message.proofs.copy.shift.Statement.{statement}
 use Rattle.message.proofs.copy.shift.Tie as tie
 

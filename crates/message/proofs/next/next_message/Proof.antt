@@ -1,5 +1,6 @@
-use Rattle.message.specs.NextMessage.{messageAt}
+-- `next_message` meets its contract, case by case. Assumes nothing.
 use borrow.Author.Needs.{needs}
+use Rattle.message.specs.NextMessage.{messageAt}
 use Rattle.message.proofs.next.next_message.Statement.{statement}
 use Rattle.message.proofs.next.next_message.Tie as tie
 

@@ -1,6 +1,7 @@
+-- `fill` meets its contract: the message, and zeros stored behind it. Assumes nothing.
 use mathlib.Core.Path.{_∙_}
-use Rattle.message.proofs.Packing.{padded-sets}
 use borrow.Author.Needs.{needs}
+use Rattle.message.proofs.Packing.{padded-sets}
 use Rattle.message.proofs.outbox.fill.Statement.{statement}
 use Rattle.message.proofs.outbox.fill.Tie as tie
 

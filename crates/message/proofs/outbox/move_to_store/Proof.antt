@@ -1,3 +1,4 @@
+-- `move_to_store` meets its contract: all bytes of the sender's message are appended. Assumes nothing.
 use lib.Seq.{take-length}
 use borrow.Author.Needs.{needs}
 use Rattle.message.proofs.outbox.move_to_store.Statement.{statement}

@@ -1,9 +1,10 @@
-use Rattle.model.specs.Sizes.{messageBytes}
-use Rattle.message.proofs.Parts.{Bounds, outbox-back}
+-- `outbox_clear` meets its contract: the part lent is whole, and zeros are a message of no bytes. Assumes nothing.
 use native.Mathlib.Omega.{arith}
 use mathlib.Core.List.{[]}
-use Rattle.message.proofs.Packing.{zeros-padded}
 use borrow.Author.Needs.{needs}
+use Rattle.model.specs.Sizes.{messageBytes}
+use Rattle.message.proofs.Parts.{Bounds, outbox-back}
+use Rattle.message.proofs.Packing.{zeros-padded}
 use Rattle.message.proofs.outbox.outbox_clear.Statement.{statement}
 use Rattle.message.proofs.outbox.outbox_clear.Tie as tie
 

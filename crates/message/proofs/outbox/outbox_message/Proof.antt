@@ -1,8 +1,9 @@
-use mathlib.Core.Path.{_≡_}
+-- `outbox_message` meets its contract: the part lies within the outbox, as the definition's does. Assumes nothing.
 use Prim.Native.Nat.{_+_, _-_}
-use Rattle.message.proofs.Parts.{outbox-shown}
 use native.Mathlib.Omega.{arith}
+use mathlib.Core.Path.{_≡_}
 use borrow.Author.Needs.{needs}
+use Rattle.message.proofs.Parts.{outbox-shown}
 use Rattle.message.proofs.outbox.outbox_message.Statement.{statement}
 use Rattle.message.proofs.outbox.outbox_message.Tie as tie
 

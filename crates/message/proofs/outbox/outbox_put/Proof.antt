@@ -1,8 +1,9 @@
+-- `outbox_put` meets its contract: the part lent is whole, and put back it is the definition's. Assumes nothing.
+use native.Mathlib.Omega.{arith}
+use lib.ListN.{take}
+use borrow.Author.Needs.{needs}
 use Rattle.model.specs.Sizes.{messageBytes}
 use Rattle.message.proofs.Parts.{Bounds, outbox-back}
-use lib.ListN.{take}
-use native.Mathlib.Omega.{arith}
-use borrow.Author.Needs.{needs}
 use Rattle.message.proofs.outbox.outbox_put.Statement.{statement}
 use Rattle.message.proofs.outbox.outbox_put.Tie as tie
 

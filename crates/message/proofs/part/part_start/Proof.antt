@@ -1,3 +1,4 @@
+-- `part_start` meets its contract: no product of a word and a part's size wraps. Assumes nothing.
 use Prim.Native.Nat.{pred, _-_}
 use native.Mathlib.Nat.{zero-mul, mul-le-mul-left}
 use native.Mathlib.Omega.{arith}

@@ -1,9 +1,10 @@
-use lib.ListN.{take}
-use Rattle.model.specs.Message.{packed}
+-- `append` meets its contract: a message packed into the part behind the bytes used is one appended. Assumes nothing.
 use mathlib.Core.Path.{_∙_, sym}
+use lib.ListN.{take}
+use borrow.Author.Needs.{needs}
+use Rattle.model.specs.Message.{packed}
 use Rattle.message.proofs.Stores.{sets-out, sets-lent}
 use Rattle.message.proofs.Packing.{appended-sets}
-use borrow.Author.Needs.{needs}
 use Rattle.message.proofs.region.append.Statement.{statement}
 use Rattle.message.proofs.region.append.Tie as tie
 

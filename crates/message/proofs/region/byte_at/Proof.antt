@@ -1,3 +1,4 @@
+-- `byte_at` meets its contract: `getD` is 0 beyond the end. Assumes nothing.
 use mathlib.Core.Path.{sym}
 use lib.ListN.{List·getD-eq-default}
 use borrow.Author.Needs.{needs}

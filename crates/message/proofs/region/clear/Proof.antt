@@ -1,7 +1,8 @@
+-- `clear` meets its contract: zeros stored over the whole. Assumes nothing.
 use mathlib.Core.Path.{_∙_}
 use lib.ListN.{length-replicate}
-use Rattle.message.proofs.Stores.{sets-whole}
 use borrow.Author.Needs.{needs}
+use Rattle.message.proofs.Stores.{sets-whole}
 use Rattle.message.proofs.region.clear.Statement.{statement}
 use Rattle.message.proofs.region.clear.Tie as tie
 

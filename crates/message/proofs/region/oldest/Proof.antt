@@ -1,8 +1,9 @@
-use mathlib.Core.Path.{_≡_}
+-- `oldest` meets its contract: the part lies within the slice, as the definition's does. Assumes nothing.
 use Prim.Native.Nat.{_+_, _-_}
-use Rattle.message.proofs.Parts.{oldest-shown}
 use native.Mathlib.Omega.{arith}
+use mathlib.Core.Path.{_≡_}
 use borrow.Author.Needs.{needs}
+use Rattle.message.proofs.Parts.{oldest-shown}
 use Rattle.message.proofs.region.oldest.Statement.{statement}
 use Rattle.message.proofs.region.oldest.Tie as tie
 

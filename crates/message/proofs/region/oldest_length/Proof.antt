@@ -1,5 +1,6 @@
-use Rattle.model.specs.Message.{oldestLength}
+-- `oldest_length` meets its contract: the definition's sum of four bytes. Assumes nothing.
 use borrow.Author.Needs.{needs}
+use Rattle.model.specs.Message.{oldestLength}
 use Rattle.message.proofs.region.oldest_length.Statement.{statement}
 use Rattle.message.proofs.region.oldest_length.Tie as tie
 

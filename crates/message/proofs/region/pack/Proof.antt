@@ -1,6 +1,7 @@
+-- `pack` meets its contract: length, bytes and padding are the packed message. Assumes nothing.
 use mathlib.Core.Path.{_∙_}
-use Rattle.message.proofs.Packing.{packed-sets}
 use borrow.Author.Needs.{needs}
+use Rattle.message.proofs.Packing.{packed-sets}
 use Rattle.message.proofs.region.pack.Statement.{statement}
 use Rattle.message.proofs.region.pack.Tie as tie
 

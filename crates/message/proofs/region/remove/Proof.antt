@@ -1,6 +1,7 @@
+-- `remove` meets its contract: the rest moved to the front, and zeros stored behind it. Assumes nothing.
 use mathlib.Core.Path.{_∙_}
-use Rattle.message.proofs.Packing.{removed-sets}
 use borrow.Author.Needs.{needs}
+use Rattle.message.proofs.Packing.{removed-sets}
 use Rattle.message.proofs.region.remove.Statement.{statement}
 use Rattle.message.proofs.region.remove.Tie as tie
 

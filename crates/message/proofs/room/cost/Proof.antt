@@ -1,6 +1,7 @@
+-- `cost` meets its contract. Assumes nothing.
 use native.Mathlib.Omega.{arith}
-use Rattle.model.specs.Message.{cost}
 use borrow.Author.Needs.{needs}
+use Rattle.model.specs.Message.{cost}
 use Rattle.message.proofs.room.cost.Statement.{statement}
 use Rattle.message.proofs.room.cost.Tie as tie
 

@@ -1,6 +1,7 @@
+-- `fits` meets its contract: no sum of three words wraps. Assumes nothing.
 use native.Mathlib.Omega.{arith}
-use Rattle.model.specs.Message.{cost}
 use borrow.Author.Needs.{needs}
+use Rattle.model.specs.Message.{cost}
 use Rattle.message.proofs.room.fits.Statement.{statement}
 use Rattle.message.proofs.room.fits.Tie as tie
 

@@ -1,8 +1,9 @@
-use Rattle.model.specs.Sizes.{regionBytes}
-use Rattle.message.proofs.Parts.{Bounds, region-back}
+-- `store_append` meets its contract: the region lent and put back is the definition's. Assumes nothing.
 use lib.ListN.{take}
-use Rattle.model.specs.Message.{appended}
 use borrow.Author.Needs.{needs}
+use Rattle.model.specs.Sizes.{regionBytes}
+use Rattle.model.specs.Message.{appended}
+use Rattle.message.proofs.Parts.{Bounds, region-back}
 use Rattle.message.proofs.store.store_append.Statement.{statement}
 use Rattle.message.proofs.store.store_append.Tie as tie
 

@@ -1,12 +1,13 @@
-use mathlib.Core.Path.{_∙_, ap}
+-- `store_clear` meets its contract: the region lent is whole, so it has `regionBytes` zeros then. Assumes nothing.
 use Prim.Native.Nat.{ℕ}
-use Rattle.model.specs.Sizes.{regionBytes}
-use Rattle.message.proofs.Parts.{Bounds, region-back, region-size}
-use lib.ListN.{length}
 use native.Mathlib.Omega.{arith}
+use mathlib.Core.Path.{_∙_, ap}
+use lib.ListN.{length}
+use borrow.Author.Needs.{needs}
+use Rattle.model.specs.Sizes.{regionBytes}
 use Rattle.model.specs.Message.{withRegion}
 use Rattle.model.specs.Lists.{zeros}
-use borrow.Author.Needs.{needs}
+use Rattle.message.proofs.Parts.{Bounds, region-back, region-size}
 use Rattle.message.proofs.store.store_clear.Statement.{statement}
 use Rattle.message.proofs.store.store_clear.Tie as tie
 

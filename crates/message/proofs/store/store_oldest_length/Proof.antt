@@ -1,8 +1,9 @@
+-- `store_oldest_length` meets its contract: the region lent is the definition's. Assumes nothing.
 use mathlib.Core.Path.{_∙_, ap}
-use Rattle.model.specs.Sizes.{regionBytes}
-use Rattle.message.proofs.Parts.{Bounds, region-lent}
-use Rattle.model.specs.Message.{oldestLength}
 use borrow.Author.Needs.{needs}
+use Rattle.model.specs.Sizes.{regionBytes}
+use Rattle.model.specs.Message.{oldestLength}
+use Rattle.message.proofs.Parts.{Bounds, region-lent}
 use Rattle.message.proofs.store.store_oldest_length.Statement.{statement}
 use Rattle.message.proofs.store.store_oldest_length.Tie as tie
 

@@ -1,7 +1,8 @@
-use Rattle.model.specs.Sizes.{regionBytes}
-use Rattle.message.proofs.Parts.{Bounds, region-back}
-use Rattle.model.specs.Message.{removed}
+-- `store_remove` meets its contract: the region lent and put back is the definition's. Assumes nothing.
 use borrow.Author.Needs.{needs}
+use Rattle.model.specs.Sizes.{regionBytes}
+use Rattle.model.specs.Message.{removed}
+use Rattle.message.proofs.Parts.{Bounds, region-back}
 use Rattle.message.proofs.store.store_remove.Statement.{statement}
 use Rattle.message.proofs.store.store_remove.Tie as tie
 
