@@ -1,0 +1,10 @@
+pub mod Parts
+pub mod Stores
+pub mod Packing
+pub mod Messages
+pub mod Regions
+pub mod Layouts
+pub mod Kept
+pub mod Areas
+pub mod Numbers
+pub mod Shown

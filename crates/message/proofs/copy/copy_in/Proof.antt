@@ -1,0 +1,80 @@
+-- `copy_in` meets its contract. The loop's invariant says what is left to store; it ends at the end of the message or of the slice. Assumes nothing.
+use Prim.Native.Nat.{_-_, _≤_}
+use native.Mathlib.Omega.{arith}
+use mathlib.Core.Path.{sym}
+use lib.ListN.{take, length-take}
+use lib.Seq.{getD-take}
+use borrow.Author.Needs.{needs}
+use Rattle.message.proofs.Stores.{Left, left-all, left-turn, left-none, sets-out}
+use Rattle.message.proofs.copy.copy_in.Statement.{statement}
+use Rattle.message.proofs.copy.copy_in.Tie as tie
+
+abbrev Inv-loop : tie.InvT-loop
+Inv-loop r₀ at m n count i₀ r i = (i ≤ count) × Left (take n m) at r₀ r i
+
+abbrev μ-loop : tie.MeasureT-loop
+μ-loop r₀ at m n count i₀ r i = count - i
+
+least-requires : tie.Need-least-requires Inv-loop μ-loop
+least-requires c κs = search needs
+
+sub-least : tie.Need-sub-least Inv-loop μ-loop
+sub-least c = search needs
+
+least-requires-2 : tie.Need-least-requires-2 Inv-loop μ-loop
+least-requires-2 c κs = search needs
+
+loop-holds : tie.Need-loop-holds Inv-loop μ-loop
+loop-holds c = (omega arith, left-all)
+
+shared-slice-read-r : tie.Need-shared-slice-read-r Inv-loop μ-loop
+shared-slice-read-r c = search needs
+
+add-r : tie.Need-add-r Inv-loop μ-loop
+add-r c = search needs
+
+slice-write-r : tie.Need-slice-write-r Inv-loop μ-loop
+slice-write-r c = search needs
+
+add-i : tie.Need-add-i Inv-loop μ-loop
+add-i c = search needs
+
+loop-less : tie.Need-loop-less Inv-loop μ-loop
+loop-less c = search needs
+
+loop-again : tie.Need-loop-again Inv-loop μ-loop
+loop-again c =
+    let l = c .before .before .loop in
+    let a = c .before .before .before .before .before .before .before .before .args in
+    (omega arith, left-turn (l .inv .1) (simp length-take (omega arith)) (getD-take (a .n) (a .m .now) (l .i) 0 (omega arith)))
+
+same-length : tie.Need-same-length Inv-loop μ-loop
+same-length c = search needs
+
+returns : tie.Need-returns Inv-loop μ-loop
+returns c = left-none (c .before .loop .inv .1) (simp length-take (omega arith))
+
+returns-2 : tie.Need-returns-2 Inv-loop μ-loop
+returns-2 c =
+    let a = c .before .before .before .args in
+    sym (sets-out (take (a .n) (a .m .now)) (a .r .now) (a .at) (c .if1 .left))
+
+pub copy-in-spec : {M : Type 1} → statement M
+copy-in-spec =
+    tie.close
+    (tie.spec
+    Inv-loop
+    μ-loop
+    least-requires
+    sub-least
+    least-requires-2
+    loop-holds
+    shared-slice-read-r
+    add-r
+    slice-write-r
+    add-i
+    loop-less
+    loop-again
+    same-length
+    returns
+    returns-2)

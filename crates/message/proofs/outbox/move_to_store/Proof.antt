@@ -1,0 +1,23 @@
+-- `move_to_store` meets its contract: all bytes of the sender's message are appended. Assumes nothing.
+use lib.Seq.{take-length}
+use borrow.Author.Needs.{needs}
+use Rattle.message.proofs.outbox.move_to_store.Statement.{statement}
+use Rattle.message.proofs.outbox.move_to_store.Tie as tie
+
+outbox-message-requires : tie.Need-outbox-message-requires
+outbox-message-requires c κs = search needs
+
+store-append-requires : tie.Need-store-append-requires
+store-append-requires c κs = search needs
+
+same-length : tie.Need-same-length
+same-length c = search needs
+
+returns : tie.Need-returns
+returns c =
+    let m = c .before .before .before .before .outbox-message .result in
+    cc (take-length (m .now))
+
+pub move-to-store-spec : {M : Type 1} → statement M
+move-to-store-spec =
+    tie.close (tie.spec outbox-message-requires store-append-requires same-length returns)

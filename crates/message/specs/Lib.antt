@@ -1,0 +1,2 @@
+pub mod NextMessage
+pub mod Packing

@@ -1,0 +1,72 @@
+// The outbox: a part for each task, in order. A waiting sender's bytes lie at the start of its part, zeros behind them.
+use super::copy::copy_in;
+use super::copy::fill_zero;
+use super::copy::least;
+use super::part::part_start;
+use super::region::clear;
+use super::store::store_append;
+use model::number::BufferNumber;
+use model::number::TaskNumber;
+use model::sizes::MESSAGE_BYTES;
+ghost use mathlib.Core.Path.{_≡_};
+ghost use mathlib.Core.List.{[]};
+ghost use Prim.Native.Nat.{_≤_};
+ghost use lib.ListN.{length, take};
+ghost use Rattle.model.specs.Sizes.{tasks, outboxBytes};
+ghost use Rattle.model.specs.Lists.{padded};
+ghost use Rattle.model.specs.Message.{appended, region, withRegion, outboxMessage, withOutboxMessage};
+ghost use Rattle.model.specs.Valid.{From};
+
+// The first n bytes of m, and zeros up to the end of a slice.
+fn fill(p: &mut [u8], m: &[u8], n: usize)
+    ensures { λ _. ⌜ now (p .exit) ≡ padded (length (now (p .entry))) (take n (now (m .entry))) ⌝ }
+{
+    let count = least(n, m.len());
+    copy_in(p, 0, m, count);
+    fill_zero(p, count, p.len());
+}
+
+pub fn outbox_put(outbox: &mut [u8], t: TaskNumber, m: &[u8], n: usize)
+    requires { ⌜ length (now outbox) ≡ outboxBytes ⌝ }
+    requires { ⌜ From 1 tasks (t .0) ⌝ }
+    ensures { λ _. ⌜ now (outbox .exit) ≡ withOutboxMessage (t .0) (now (outbox .entry)) (take n (now (m .entry))) ⌝ }
+{
+    let a = part_start(t.word(), MESSAGE_BYTES, outbox.len());
+    let e = least(a + MESSAGE_BYTES, outbox.len());
+    fill(&mut outbox[a..e], m, n);
+}
+
+pub fn outbox_clear(outbox: &mut [u8], t: TaskNumber)
+    requires { ⌜ length (now outbox) ≡ outboxBytes ⌝ }
+    requires { ⌜ From 1 tasks (t .0) ⌝ }
+    ensures { λ _. ⌜ now (outbox .exit) ≡ withOutboxMessage (t .0) (now (outbox .entry)) [] ⌝ }
+{
+    let a = part_start(t.word(), MESSAGE_BYTES, outbox.len());
+    let e = least(a + MESSAGE_BYTES, outbox.len());
+    clear(&mut outbox[a..e]);
+}
+
+// The first n bytes of a task's part, where they lie.
+pub fn outbox_message<'a>(outbox: &'a [u8], t: TaskNumber, n: usize) -> &'a [u8]
+    ensures { λ m. ⌜ now m ≡ outboxMessage (t .0) n (now (outbox .entry)) ⌝ }
+{
+    let a = part_start(t.word(), MESSAGE_BYTES, outbox.len());
+    let e = a + least(least(n, MESSAGE_BYTES), outbox.len() - a);
+    &outbox[a..e]
+}
+
+// A waiting sender's message becomes the newest of a buffer.
+pub fn move_to_store(
+    store: &mut [u8],
+    b: BufferNumber,
+    used: usize,
+    outbox: &[u8],
+    t: TaskNumber,
+    n: usize,
+)
+    requires { ⌜ 1 ≤ b .0 ⌝ }
+    ensures { λ _. ⌜ now (store .exit) ≡ withRegion (b .0) (now (store .entry)) (appended (region (b .0) (now (store .entry))) used (outboxMessage (t .0) n (now (outbox .entry)))) ⌝ }
+{
+    let m = outbox_message(outbox, t, n);
+    store_append(store, b, used, m, m.len());
+}

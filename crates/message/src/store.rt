@@ -1,0 +1,67 @@
+// The store: a region for each buffer, in order. Each function lends one buffer's region, the middle part of the store, and
+// nothing else of it.
+//
+// A buffer's number is at least 1: `withRegion 0` would make the store longer, which no slice can be. Where the number is above
+// the last, or the store is too short, the part that is lent is shorter or empty, and so is the definition's region.
+use super::copy::least;
+use super::part::part_start;
+use super::region::append;
+use super::region::clear;
+use super::region::oldest;
+use super::region::oldest_length;
+use super::region::remove;
+use model::number::BufferNumber;
+use model::sizes::REGION_BYTES;
+ghost use mathlib.Core.Path.{_≡_};
+ghost use Prim.Native.Nat.{_≤_};
+ghost use lib.ListN.{length, take};
+ghost use Rattle.model.specs.Sizes.{buffers, regionBytes, storeBytes};
+ghost use Rattle.model.specs.Lists.{zeros};
+ghost use Rattle.model.specs.Message.{appended, oldestLength, oldest, removed, region, withRegion};
+ghost use Rattle.model.specs.Valid.{From};
+
+pub fn store_append(store: &mut [u8], b: BufferNumber, used: usize, m: &[u8], n: usize)
+    requires { ⌜ 1 ≤ b .0 ⌝ }
+    ensures { λ _. ⌜ now (store .exit) ≡ withRegion (b .0) (now (store .entry)) (appended (region (b .0) (now (store .entry))) used (take n (now (m .entry)))) ⌝ }
+{
+    let a = part_start(b.word(), REGION_BYTES, store.len());
+    let e = least(a + REGION_BYTES, store.len());
+    append(&mut store[a..e], used, m, n);
+}
+
+pub fn store_remove(store: &mut [u8], b: BufferNumber)
+    requires { ⌜ 1 ≤ b .0 ⌝ }
+    ensures { λ _. ⌜ now (store .exit) ≡ withRegion (b .0) (now (store .entry)) (removed (region (b .0) (now (store .entry)))) ⌝ }
+{
+    let a = part_start(b.word(), REGION_BYTES, store.len());
+    let e = least(a + REGION_BYTES, store.len());
+    remove(&mut store[a..e]);
+}
+
+// The region must be whole: `zeros regionBytes` takes its place whatever its length.
+pub fn store_clear(store: &mut [u8], b: BufferNumber)
+    requires { ⌜ length (now store) ≡ storeBytes ⌝ }
+    requires { ⌜ From 1 buffers (b .0) ⌝ }
+    ensures { λ _. ⌜ now (store .exit) ≡ withRegion (b .0) (now (store .entry)) (zeros regionBytes) ⌝ }
+{
+    let a = part_start(b.word(), REGION_BYTES, store.len());
+    let e = least(a + REGION_BYTES, store.len());
+    clear(&mut store[a..e]);
+}
+
+pub fn store_oldest_length(store: &[u8], b: BufferNumber) -> u32
+    ensures { λ n. ⌜ n ≡ oldestLength (region (b .0) (now (store .entry))) ⌝ }
+{
+    let a = part_start(b.word(), REGION_BYTES, store.len());
+    let e = least(a + REGION_BYTES, store.len());
+    oldest_length(&store[a..e])
+}
+
+// A buffer's oldest message, where it lies.
+pub fn store_oldest<'a>(store: &'a [u8], b: BufferNumber) -> &'a [u8]
+    ensures { λ m. ⌜ now m ≡ oldest (region (b .0) (now (store .entry))) ⌝ }
+{
+    let a = part_start(b.word(), REGION_BYTES, store.len());
+    let e = least(a + REGION_BYTES, store.len());
+    oldest(&store[a..e])
+}
