@@ -1,1 +1,2 @@
-// Queues.
+// Queues: the arrival order, kept in place; the first of any queue; the task that runs next.
+pub mod arrival;

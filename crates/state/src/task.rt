@@ -1,6 +1,7 @@
 // The tasks' fields. A number outside the range of tasks reads as 0, and a store there does nothing; so the length of the lent words
 // is all that a caller has to show, here and in the other modules of fields.
 use super::layout::ARGUMENT;
+use super::layout::ARRIVAL_SLOTS;
 use super::layout::BASE;
 use super::layout::CURRENT;
 use super::layout::INITIAL;
@@ -12,9 +13,11 @@ use super::layout::get;
 use super::layout::put;
 use model::number::TaskNumber;
 ghost use mathlib.Core.Path.{_≡_};
-ghost use lib.ListN.{length};
+ghost use mathlib.Core.List.{_∷_};
+ghost use lib.ListN.{length, replicate};
+ghost use Rattle.model.specs.Sizes.{tasks};
 ghost use Rattle.model.specs.Lists.{_!_};
-ghost use Rattle.model.specs.Kernel.{withPlace, withObject, withArgument, withInitial, withBase, withCurrent, withLeft};
+ghost use Rattle.model.specs.Kernel.{withPlace, withObject, withArgument, withInitial, withBase, withCurrent, withCurrents, withLeft};
 ghost use Rattle.state.specs.Words.{wordCount, kernel, Represents};
 
 // Where a task stands: absent, dormant, or in a queue: ready, or waiting to lock a mutex, to send, to receive, to get a block.
@@ -135,4 +138,23 @@ pub fn set_left(state: &mut [u32], t: TaskNumber, v: u32)
     ensures { λ r. ⌜ Represents (now (state .exit)) (withLeft (kernel (now (state .entry))) (t .0) v) ⌝ }
 {
     put(state, LEFT, TASK_SLOTS, t.word() as usize, v);
+}
+
+// One entry of the current priorities, also that of none.
+fn put_current(state: &mut [u32], i: usize, v: u32)
+    requires { ⌜ length (now state) ≡ wordCount ⌝ }
+    ensures { λ r. ⌜ Represents (now (state .exit)) (withCurrent (kernel (now (state .entry))) i v) ⌝ }
+{
+    put(state, CURRENT, TASK_SLOTS, i, v);
+}
+
+// Every task's current priority becomes one number; none's is 0. All are worked out anew from here.
+pub fn set_every_current(state: &mut [u32], v: u32)
+    requires { ⌜ length (now state) ≡ wordCount ⌝ }
+    ensures { λ r. ⌜ Represents (now (state .exit)) (withCurrents (kernel (now (state .entry))) (0 ∷ replicate tasks v)) ⌝ }
+{
+    put_current(state, 0, 0);
+    for n in 0..ARRIVAL_SLOTS {
+        put_current(state, n + 1, v);
+    }
 }

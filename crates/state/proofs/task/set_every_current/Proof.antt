@@ -1,0 +1,46 @@
+-- `set_every_current` meets its contract. The loop's invariant: the tasks passed have the number. Assumes nothing.
+use Prim.Native.Nat.{_-_}
+use native.Mathlib.Omega.{arith}
+use mathlib.Core.Path.{_∙_, sym}
+use borrow.Author.Needs.{needs}
+use Rattle.model.specs.Sizes.{tasks}
+use Rattle.state.specs.Currents.{Filling, fill-start, fill-step, fill-done}
+use Rattle.state.proofs.task.set_every_current.Statement.{statement}
+use Rattle.state.proofs.task.set_every_current.Tie as tie
+
+abbrev Inv-loop : tie.InvT-loop
+Inv-loop state₀ v n₀ state n = Filling state₀ state v n
+
+abbrev μ-loop : tie.MeasureT-loop
+μ-loop state₀ v n₀ state n = tasks - n
+
+put-current-requires : tie.Need-put-current-requires Inv-loop μ-loop
+put-current-requires c κs = search needs
+
+loop-holds : tie.Need-loop-holds Inv-loop μ-loop
+loop-holds c = fill-start _ _ (c .before .before .put-current .ensures .length)
+
+add-put-current : tie.Need-add-put-current Inv-loop μ-loop
+add-put-current c = search needs
+
+put-current-requires-2 : tie.Need-put-current-requires-2 Inv-loop μ-loop
+put-current-requires-2 c κs = c .before .before .loop .inv .state .length
+
+add-n : tie.Need-add-n Inv-loop μ-loop
+add-n c = search needs
+
+loop-less : tie.Need-loop-less Inv-loop μ-loop
+loop-less c = omega arith
+
+loop-again : tie.Need-loop-again Inv-loop μ-loop
+loop-again c = fill-step _ _ _ _ _ (c .before .before .before .before .loop-test .taken) (c .before .before .before .before .before .loop .inv) (c .before .before .put-current2 .ensures)
+
+same-length : tie.Need-same-length Inv-loop μ-loop
+same-length c = c .before .loop .inv .state .length ∙ sym (c .before .before .before .before .before .before .before .pre)
+
+returns : tie.Need-returns Inv-loop μ-loop
+returns c = fill-done _ _ _ _ _ (c .before .before .before .before .before .before .before .pre) (c .before .before .before .before .put-current .ensures) (c .loop-test .left) (c .before .loop .inv)
+
+pub set-every-current-spec : {M : Type 1} → statement M
+set-every-current-spec =
+    tie.close (tie.spec Inv-loop μ-loop put-current-requires loop-holds add-put-current put-current-requires-2 add-n loop-less loop-again same-length returns)
