@@ -7,27 +7,21 @@ use model::number::TaskNumber;
 use model::sizes::TASKS;
 use state::task;
 ghost use mathlib.Core.Path.{_≡_};
-ghost use Prim.Native.Nat.{_≤_};
 ghost use lib.ListN.{length};
-ghost use Rattle.model.specs.Sizes.{tasks};
 ghost use Rattle.model.specs.World.{recompute};
 ghost use Rattle.state.specs.Words.{wordCount, kernel, Represents};
 ghost use Rattle.priority.specs.Own.{ownOf};
 ghost use Rattle.priority.specs.Walk.{MayRaise, raisedKernel};
-ghost use Rattle.priority.specs.Afresh.{forgetting, withoutFirst, noneYet};
 
 // "None yet": every priority is as urgent or more urgent.
 const NONE_YET: u32 = 4294967295;
-
-// Where the current priorities begin: the sixth of the tasks' fields.
-const CURRENT: usize = 5 * (TASKS as usize + 1);
 
 // Every current priority becomes the effective one, whatever the words hold.
 pub fn recompute(state: &mut [u32])
     requires { ⌜ length (now state) ≡ wordCount ⌝ }
     ensures { λ _. ⌜ Represents (now (state .exit)) (recompute (kernel (now (state .entry)))) ⌝ }
 {
-    forget(state);
+    task::set_every_current(state, NONE_YET);
     for n in 0..TASKS {
         raise_to_own(state, n + 1);
     }
@@ -45,35 +39,4 @@ fn raise_to_own(state: &mut [u32], n: u32)
         }
         MaybeTask::Nothing => {}
     }
-}
-
-// No task has a current priority yet.
-fn forget(state: &mut [u32])
-    requires { ⌜ length (now state) ≡ wordCount ⌝ }
-    ensures { λ _. ⌜ Represents (now (state .exit)) (noneYet (kernel (now (state .entry)))) ⌝ }
-{
-    clear_first(state);
-    for n in 0..TASKS {
-        forget_task(state, n + 1);
-    }
-}
-
-fn forget_task(state: &mut [u32], n: u32)
-    requires { ⌜ length (now state) ≡ wordCount ⌝ }
-    requires { ⌜ 1 ≤ n ⌝ }
-    requires { ⌜ n ≤ tasks ⌝ }
-    ensures { λ _. ⌜ Represents (now (state .exit)) (forgetting (kernel (now (state .entry))) n) ⌝ }
-{
-    match TaskNumber::from_word(n) {
-        MaybeTask::Task(t) => task::set_current(state, t, NONE_YET),
-        MaybeTask::Nothing => {}
-    }
-}
-
-// Entry 0, which stands for no task and has no number, becomes 0.
-fn clear_first(state: &mut [u32])
-    requires { ⌜ length (now state) ≡ wordCount ⌝ }
-    ensures { λ _. ⌜ Represents (now (state .exit)) (withoutFirst (kernel (now (state .entry)))) ⌝ }
-{
-    state[CURRENT] = 0;
 }

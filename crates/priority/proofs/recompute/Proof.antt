@@ -17,21 +17,21 @@ abbrev μ-loop : tie.MeasureT-loop
 μ-loop state₀ n₀ state n = tasks - n
 
 loop-holds : tie.Need-loop-holds Inv-loop μ-loop
-loop-holds c = let f = c .before .before .forget .ensures in (record { length = f .length; kernel = rw (f .kernel) (so-far-start _) }, omega arith)
+loop-holds c = let f = c .before .before .set-every-current .ensures in (record { length = f .length; kernel = rw (f .kernel) (so-far-start _) }, omega arith)
 
 raise-to-own-requires : tie.Need-raise-to-own-requires Inv-loop μ-loop
-raise-to-own-requires c κs = so-far-may _ (c .before .before .before .before .before .forget .ensures .length) _ _ (c .before .before .loop .inv .0) (omega arith)
+raise-to-own-requires c κs = so-far-may _ (c .before .before .before .before .before .set-every-current .ensures .length) _ _ (c .before .before .loop .inv .0) (omega arith)
 
 loop-again : tie.Need-loop-again Inv-loop μ-loop
 loop-again c =
-    (so-far-step _ (c .before .before .before .before .before .before .before .before .forget .ensures .length) _ _ (c .before .before .before .before .before .loop .inv .0) _ (c .before .before .raise-to-own .ensures), omega arith)
+    (so-far-step _ (c .before .before .before .before .before .before .before .before .set-every-current .ensures .length) _ _ (c .before .before .before .before .before .loop .inv .0) _ (c .before .before .raise-to-own .ensures), omega arith)
 
 same-length : tie.Need-same-length Inv-loop μ-loop
 same-length c = c .before .loop .inv .0 .length ∙ sym (c .before .before .before .before .before .before .before .pre)
 
 returns : tie.Need-returns Inv-loop μ-loop
 returns c =
-    let f = c .before .before .before .before .forget .ensures in
+    let f = c .before .before .before .before .set-every-current .ensures in
     let r = c .before .loop .inv .0 in
     let e : c .before .loop .n ≡ tasks = omega arith in
     let fits = own-fits _ (λ i. c .before .before .slice-known2 .given i .fits) in
