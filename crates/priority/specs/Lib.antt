@@ -3,3 +3,6 @@ pub mod Least
 pub mod Raise
 pub mod Recompute
 pub mod Effective
+pub mod Own
+pub mod Walk
+pub mod Afresh

@@ -1,0 +1,154 @@
+-- A task's own priority, mutex by mutex, and what a number read from the state names. Assumes nothing.
+use Prim.Native.Nat.{ℕ, zero, suc, _≤_, _<_, min}
+use native.Mathlib.Numerals.{one-add}
+use native.Mathlib.Omega.{arith}
+use mathlib.Core.Path.{_≡_, _∙_, refl, sym, ap}
+use mathlib.Core.Logic.{_≢_, _⊎_, inl, inr}
+use mathlib.Core.Bool.{Bool, true, false, _&&_, cond}
+use mathlib.Core.List.{List}
+use lib.Seq.{getD-drop}
+use lib.Dec.{eqb, ltb}
+use borrow.Author.Tests.{eqb-true, eqb-false, ltb-true, ltb-false, eq-eqb, ne-eqb}
+use Rattle.model.specs.Sizes.{tasks, mutexes}
+use Rattle.model.specs.Lists.{_!_}
+use Rattle.model.specs.Facts.{Facts, ceilinged}
+use Rattle.model.specs.Priority.{ownPriority}
+use Rattle.model.specs.Kernel.{Kernel, facts, numbered}
+use Rattle.model.specs.Number.{wordNumber, maybeTask, maybeMutex, taskWord, mutexWord}
+use Rattle.model.specs.declared.number.TaskNumber.{TaskNumber}
+use Rattle.model.specs.declared.number.MaybeTask.{MaybeTask}
+use Rattle.model.specs.declared.number.MaybeTask as mTask
+use Rattle.model.specs.declared.number.MutexNumber.{MutexNumber}
+use Rattle.model.specs.declared.number.MaybeMutex.{MaybeMutex}
+use Rattle.model.specs.declared.number.MaybeMutex as mMutex
+use Rattle.priority.specs.Least.{least}
+use Rattle.priority.specs.Recompute.{least-suc}
+
+-- ---- numbers
+
+-- an entry that stands for an object is the state's own
+pub numbered-at : (xs : List ℕ) (i : ℕ) → 1 ≤ i → numbered xs ! i ≡ xs ! i
+numbered-at xs zero h = absurd (omega arith)
+numbered-at xs (suc i) h = getD-drop 1 xs i 0 ∙ ap (λ (j : ℕ). xs ! j) (one-add i)
+
+-- a word names an object exactly if it is a number from 1 to the last
+module _ (n last : ℕ) where
+  named : wordNumber n last ≢ 0 → (wordNumber n last ≡ n) × (1 ≤ n) × (n ≤ last)
+  unfolding wordNumber
+  named h = go (ltb last n) refl h
+    where
+      go : (b : Bool) → ltb last n ≡ b → cond b 0 n ≢ 0 → (cond b 0 n ≡ n) × (1 ≤ n) × (n ≤ last)
+      go true e h = absurd (h refl)
+      go false e h = (refl, omega (arith, h), ltb-false _ _ e)
+
+  unnamed : wordNumber n last ≡ 0 → (n ≡ 0) ⊎ (last < n)
+  unfolding wordNumber
+  unnamed h = go (ltb last n) refl h
+    where
+      go : (b : Bool) → ltb last n ≡ b → cond b 0 n ≡ 0 → (n ≡ 0) ⊎ (last < n)
+      go true e h = inr (ltb-true _ _ e)
+      go false e h = inl h
+
+-- what the word is if a number m was made from it
+pub record Named (n last m : ℕ) : Type 0 where
+  pub same : m ≡ n
+  pub low : 1 ≤ m
+  pub high : m ≤ last
+
+named-as : (n last m : ℕ) → m ≡ wordNumber n last → wordNumber n last ≢ 0 → Named n last m
+named-as n last m e d =
+    let q : m ≡ n = e ∙ named n last d .0 in record { same = q; low = rw q (named n last d .1); high = rw q (named n last d .2) }
+
+-- the two cases of each range check: a number was made, or none
+module _ {r : MaybeTask} (n : ℕ) (e : r ≡ maybeTask (wordNumber n tasks)) where
+  pub task-named : (t : TaskNumber) → r ≡ mTask.the-variants.Task t → Named n tasks (t .0)
+  unfolding maybeTask
+  task-named t q = go (eqb (wordNumber n tasks) 0) refl (sym q ∙ e)
+    where
+      go : (b : Bool) → eqb (wordNumber n tasks) 0 ≡ b
+          → mTask.the-variants.Task t ≡ cond b mTask.the-variants.Nothing (mTask.the-variants.Task (record { 0 = wordNumber n tasks })) → Named n tasks (t .0)
+      go true b e = let z : _≡_ {A = ℕ} 0 1 = cc in absurd (omega arith)
+      go false b e = named-as n tasks (t .0) (ap taskWord e) (eqb-false _ 0 b)
+
+  pub task-unnamed : r ≡ mTask.the-variants.Nothing → (n ≡ 0) ⊎ (tasks < n)
+  unfolding maybeTask
+  task-unnamed q = go (eqb (wordNumber n tasks) 0) refl (sym q ∙ e)
+    where
+      go : (b : Bool) → eqb (wordNumber n tasks) 0 ≡ b
+          → mTask.the-variants.Nothing ≡ cond b mTask.the-variants.Nothing (mTask.the-variants.Task (record { 0 = wordNumber n tasks })) → (n ≡ 0) ⊎ (tasks < n)
+      go true b e = unnamed n tasks (eqb-true _ 0 b)
+      go false b e = let z : _≡_ {A = ℕ} 0 1 = cc in absurd (omega arith)
+
+module _ {r : MaybeMutex} (n : ℕ) (e : r ≡ maybeMutex (wordNumber n mutexes)) where
+  pub mutex-named : (m : MutexNumber) → r ≡ mMutex.the-variants.Mutex m → Named n mutexes (m .0)
+  unfolding maybeMutex
+  mutex-named m q = go (eqb (wordNumber n mutexes) 0) refl (sym q ∙ e)
+    where
+      go : (b : Bool) → eqb (wordNumber n mutexes) 0 ≡ b
+          → mMutex.the-variants.Mutex m ≡ cond b mMutex.the-variants.Nothing (mMutex.the-variants.Mutex (record { 0 = wordNumber n mutexes })) → Named n mutexes (m .0)
+      go true b e = let z : _≡_ {A = ℕ} 0 1 = cc in absurd (omega arith)
+      go false b e = named-as n mutexes (m .0) (ap mutexWord e) (eqb-false _ 0 b)
+
+  pub mutex-unnamed : r ≡ mMutex.the-variants.Nothing → (n ≡ 0) ⊎ (mutexes < n)
+  unfolding maybeMutex
+  mutex-unnamed q = go (eqb (wordNumber n mutexes) 0) refl (sym q ∙ e)
+    where
+      go : (b : Bool) → eqb (wordNumber n mutexes) 0 ≡ b
+          → mMutex.the-variants.Nothing ≡ cond b mMutex.the-variants.Nothing (mMutex.the-variants.Mutex (record { 0 = wordNumber n mutexes })) → (n ≡ 0) ⊎ (mutexes < n)
+      go true b e = unnamed n mutexes (eqb-true _ 0 b)
+      go false b e = let z : _≡_ {A = ℕ} 0 1 = cc in absurd (omega arith)
+
+-- a number in the range names something
+pub inside : {n last : ℕ} {A : Type 0} → 1 ≤ n → n ≤ last → (n ≡ 0) ⊎ (last < n) → A
+inside a b (inl e) = absurd (omega arith)
+inside a b (inr e) = absurd (omega arith)
+
+-- ---- own priorities
+
+abbrev pub ownOf : Kernel → ℕ → ℕ
+ownOf k t = ownPriority (facts k) t
+
+-- whether a task holds a mutex whose ceiling counts
+abbrev pub holdsCeiling : Facts → ℕ → ℕ → Bool
+holdsCeiling f t m = eqb (f .holder ! m) t && eqb (f .mutexAttribute ! m) ceilinged
+
+-- one mutex more
+unfoldable pub withCeilingOf : Kernel → ℕ → ℕ → ℕ → ℕ
+withCeilingOf k t m p = cond (holdsCeiling (facts k) t m) (min p (facts k .ceiling ! m)) p
+
+-- the most urgent of the base and the ceilings held of the first n mutexes
+unfoldable pub ownSoFar : Kernel → ℕ → ℕ → ℕ
+ownSoFar k t n = least (facts k .base ! t) (λ m. facts k .ceiling ! m) (holdsCeiling (facts k) t) n
+
+module _ (k : Kernel) (t : ℕ) where
+  pub own-start : 1 ≤ t → k .tasks .base ! t ≡ ownSoFar k t 0
+  unfolding ownSoFar facts
+  own-start h = sym (numbered-at (k .tasks .base) t h)
+
+  pub own-step : (n : ℕ) → withCeilingOf k t (suc n) (ownSoFar k t n) ≡ ownSoFar k t (suc n)
+  unfolding ownSoFar withCeilingOf
+  own-step n = sym (least-suc (λ m. facts k .ceiling ! m) (holdsCeiling (facts k) t) (facts k .base ! t) n)
+
+  pub own-all : ownSoFar k t mutexes ≡ ownOf k t
+  unfolding ownSoFar ownPriority
+  own-all = refl
+
+  -- of the mutex that was named by n: the ceiling counts, or not
+  module _ (n m p : ℕ) (h : Named n mutexes m) where
+    pub ceiling-held : k .mutexes .holder ! m ≡ t → k .mutexes .attribute ! m ≡ ceilinged → min p (k .mutexes .ceiling ! m) ≡ withCeilingOf k t n p
+    unfolding withCeilingOf facts
+    ceiling-held q e =
+        rw (← h .same, numbered-at (k .mutexes .holder) m (h .low), numbered-at (k .mutexes .attribute) m (h .low), numbered-at (k .mutexes .ceiling) m (h .low), eq-eqb _ _ q, eq-eqb _ _ e)
+
+    pub not-holder : (k .mutexes .holder ! m ≡ t → ⊥) → p ≡ withCeilingOf k t n p
+    unfolding withCeilingOf facts
+    not-holder q = rw (← h .same, numbered-at (k .mutexes .holder) m (h .low), ne-eqb _ _ q)
+
+    pub not-ceilinged : (k .mutexes .attribute ! m ≡ ceilinged → ⊥) → p ≡ withCeilingOf k t n p
+    unfolding withCeilingOf facts
+    not-ceilinged q =
+        rw (← h .same, numbered-at (k .mutexes .attribute) m (h .low), ne-eqb _ _ q) (go (eqb (numbered (k .mutexes .holder) ! m) t))
+      where
+        go : (b : Bool) → p ≡ cond (b && false) (min p (numbered (k .mutexes .ceiling) ! m)) p
+        go true = refl
+        go false = refl
