@@ -16,9 +16,10 @@ use Rattle.model.specs.Kernel.{Kernel, facts, slot}
 use Rattle.model.specs.World.{Lent}
 use Rattle.model.specs.Message.{part, region}
 use Rattle.model.specs.Act.{firstFits}
-use Rattle.model.specs.Refusal.{aboveCeiling, freeBlock, mutexAttributes, bufferAttributes, poolAttributes}
-use Rattle.model.specs.Valid.{From, Each, Lists, lists, Lengths, lengths, TaskRange, taskRange, MutexRange, mutexRange, BufferRange, bufferRange, PoolRange, poolRange, BlockFlag, blockFlag, Argument, argument, Wait, waitFields, awaitable, Arrivals, arrivals, Priorities, currentPriorities, Ceiling, ceiling, Locking, lockingTask, Getting, gettingTask, Receiving, receivingTask, FirstSender, firstSender, Outbox, outboxPart, Layout, layout, Valid, valid}
-use Rattle.valid.specs.Tests.{Agrees, and-agrees, or-agrees, implies-agrees, not-agrees, and3, and4, and5, eq-agrees, ne-agrees, le-agrees, lt-agrees, within-agrees, each-agrees, to-agrees, entries-agree, same-agrees, none-agrees, zero-agrees}
+use Rattle.model.specs.Refusal.{aboveCeiling, freeBlock, poolSum, mutexAttributes, bufferAttributes, poolAttributes}
+use Rattle.model.specs.Valid.{From, Each, taskLists, mutexLists, bufferLists, poolLists, Lists, lists, Lengths, lengths, TaskRange, taskRange, MutexRange, mutexRange, BufferRange, bufferRange, PoolRange, poolRange, BlockFlag, blockFlag, Argument, argument, Wait, waitFields, awaitable, Arrivals, arrivals, Priorities, currentPriorities, Ceiling, ceiling, Locking, lockingTask, Getting, gettingTask, Receiving, receivingTask, FirstSender, firstSender, Outbox, outboxPart, Layout, layout, Valid, valid}
+use Rattle.message.proofs.Layouts.{layout-valid, valid-layout}
+use Rattle.valid.specs.Tests.{Agrees, and-agrees, or-agrees, implies-agrees, not-agrees, and3, and4, and5, eq-agrees, ne-agrees, le-agrees, lt-agrees, within-agrees, each-agrees, each-within, then-agrees, to-agrees, entries-agree, same-agrees, none-agrees, zero-agrees}
 
 -- a test that is itself the statement
 itself : (b : Bool) → Agrees b (b ≡ true)
@@ -162,3 +163,68 @@ outbox-agrees x n t low high = rw e at (zero-agrees (drop (x .kernel .tasks .arg
   where
     e : length (drop (x .kernel .tasks .argument ! t) (part messageBytes t (x .outbox))) ≡ messageBytes - x .kernel .tasks .argument ! t
     e = rw (length-drop, part-length t (x .outbox) n low high)
+
+-- ---- the store
+
+-- a region has its bytes where the store has its length
+region-length : (b : ℕ) (store : List ℕ) → length store ≡ storeBytes → 1 ≤ b → b ≤ buffers → length (region b store) ≡ regionBytes
+unfolding region part
+region-length b store n low high = rw (length-take, length-drop) (omega arith)
+
+-- the bytes used are no more than a region has, and messages are short
+used-in : (k : Kernel) (b : ℕ) → BufferRange k b → (k .buffers .used ! b ≤ regionBytes) × (k .buffers .maxmsz ! b ≤ messageBytes)
+unfolding BufferRange
+used-in k b (inl h) = (let e = h .4 in omega arith, let e = h .3 in omega arith)
+used-in k b (inr h) = (let a = h .2 in let e = h .4 in omega arith, h .3 .1)
+
+pub layout-agrees : (x : Lent) → length (x .store) ≡ storeBytes → (b : ℕ) → 1 ≤ b → b ≤ buffers → BufferRange (x .kernel) b
+    → Agrees (layout regionBytes (x .kernel .buffers .maxmsz ! b) (x .kernel .buffers .used ! b) (region b (x .store))) (Layout (x .kernel .buffers .maxmsz ! b) (x .kernel .buffers .used ! b) (region b (x .store)))
+layout-agrees x n b low high r =
+    let u = used-in (x .kernel) b r in
+    let l = region-length b (x .store) n low high in
+    let short : x .kernel .buffers .maxmsz ! b < 256 = let m = u .1 in omega arith in (
+      layout-valid (x .kernel .buffers .maxmsz ! b) short (x .kernel .buffers .used ! b) (region b (x .store)) l (u .0),
+      valid-layout (x .kernel .buffers .maxmsz ! b) short (x .kernel .buffers .used ! b) (region b (x .store)) l,
+    )
+
+-- ---- all clauses
+
+-- the flags of all pools' blocks, those of pool 0 and of block 0 too
+flags-agree : (k : Kernel) → Agrees (all (λ p. all (blockFlag k p) (countFrom 0 (suc blocks))) (countFrom 0 (suc pools))) ((p b : ℕ) → p ≤ pools → b ≤ blocks → BlockFlag k p b)
+flags-agree k =
+    let a = to-agrees (λ p. all (blockFlag k p) (countFrom 0 (suc blocks))) (λ p. (b : ℕ) → b ≤ blocks → BlockFlag k p b) (λ p. to-agrees (blockFlag k p) (BlockFlag k p) (flag-agrees k p) blocks) pools in
+    ((λ e p b h l. a .0 e p h b l), (λ f. a .1 (λ p h b l. f p b h l)))
+
+module _ (x : Lent) where
+  abbrev k : Kernel
+  k = x .kernel
+
+  -- The theorem: the test answers true exactly if every statement holds.
+  pub valid-agrees : Agrees (valid x) (Valid x)
+  unfolding valid
+  valid-agrees =
+      let c0 = lists-agree tasks (taskLists k) in
+      let c1 = then-agrees _ _ c0 (λ q. lists-agree mutexes (mutexLists k)) in
+      let c2 = then-agrees _ _ c1 (λ q. lists-agree buffers (bufferLists k)) in
+      let c3 = then-agrees _ _ c2 (λ q. lists-agree pools (poolLists k)) in
+      let c4 = then-agrees _ _ c3 (λ q. lengths-agree x) in
+      let c5 = then-agrees _ _ c4 (λ q. each-agrees (taskRange k) (TaskRange k) (task-agrees k) tasks) in
+      let c6 = then-agrees _ _ c5 (λ q. each-agrees (mutexRange k) (MutexRange k) (mutex-agrees k) mutexes) in
+      let c7 = then-agrees _ _ c6 (λ q. each-agrees (bufferRange k) (BufferRange k) (buffer-agrees k) buffers) in
+      let c8 = then-agrees _ _ c7 (λ q. each-agrees (poolRange k) (PoolRange k) (pool-agrees k) pools) in
+      let c9 = then-agrees _ _ c8 (λ q. flags-agree k) in
+      let c10 = then-agrees _ _ c9 (λ q. le-agrees (poolSum k) poolBytes) in
+      let c11 = then-agrees _ _ c10 (λ q. each-agrees (argument k) (Argument k) (argument-agrees k) tasks) in
+      let c12 = then-agrees _ _ c11 (λ q. each-agrees (waitFields k) (Wait k) (wait-agrees k) tasks) in
+      let c13 = then-agrees _ _ c12 (λ q. arrivals-agree k) in
+      let c14 = then-agrees _ _ c13 (λ q. priorities-agree k) in
+      let c15 = then-agrees _ _ c14 (λ q. each-agrees (λ t. all (ceiling k t) (upTo mutexes)) (λ t. Each mutexes (Ceiling k t)) (λ t. each-agrees (ceiling k t) (Ceiling k t) (ceiling-agrees k t) mutexes) tasks) in
+      let c16 = then-agrees _ _ c15 (λ q. each-agrees (lockingTask k) (Locking k) (locking-agrees k) tasks) in
+      let c17 = then-agrees _ _ c16 (λ q. each-agrees (gettingTask k) (Getting k) (getting-agrees k) tasks) in
+      let c18 = then-agrees _ _ c17 (λ q. each-agrees (receivingTask k) (Receiving k) (receiving-agrees k) tasks) in
+      let c19 = then-agrees _ _ c18 (λ q. each-agrees (firstSender k) (FirstSender k) (sender-agrees k) buffers) in
+      let c20 = then-agrees _ _ c19 (λ q. each-within (λ b. layout regionBytes (k .buffers .maxmsz ! b) (k .buffers .used ! b) (region b (x .store))) (λ b. Layout (k .buffers .maxmsz ! b) (k .buffers .used ! b) (region b (x .store))) buffers (λ b low high. layout-agrees x (q .0 .0 .0 .0 .0 .0 .0 .0 .0 .0 .0 .0 .0 .0 .0 .1 .2) b low high (q .0 .0 .0 .0 .0 .0 .0 .0 .0 .0 .0 .0 .1 b low high))) in
+      let c21 = then-agrees _ _ c20 (λ q. each-within (outboxPart x) (Outbox x) tasks (outbox-agrees x (q .0 .0 .0 .0 .0 .0 .0 .0 .0 .0 .0 .0 .0 .0 .0 .0 .1 .3))) in (
+        (λ e. let q = c21 .0 e in record { isTaskLists = q .0 .0 .0 .0 .0 .0 .0 .0 .0 .0 .0 .0 .0 .0 .0 .0 .0 .0 .0 .0 .0; isMutexLists = q .0 .0 .0 .0 .0 .0 .0 .0 .0 .0 .0 .0 .0 .0 .0 .0 .0 .0 .0 .0 .1; isBufferLists = q .0 .0 .0 .0 .0 .0 .0 .0 .0 .0 .0 .0 .0 .0 .0 .0 .0 .0 .0 .1; isPoolLists = q .0 .0 .0 .0 .0 .0 .0 .0 .0 .0 .0 .0 .0 .0 .0 .0 .0 .0 .1; isLengths = q .0 .0 .0 .0 .0 .0 .0 .0 .0 .0 .0 .0 .0 .0 .0 .0 .0 .1; isTaskRange = q .0 .0 .0 .0 .0 .0 .0 .0 .0 .0 .0 .0 .0 .0 .0 .0 .1; isMutexRange = q .0 .0 .0 .0 .0 .0 .0 .0 .0 .0 .0 .0 .0 .0 .0 .1; isBufferRange = q .0 .0 .0 .0 .0 .0 .0 .0 .0 .0 .0 .0 .0 .0 .1; isPoolRange = q .0 .0 .0 .0 .0 .0 .0 .0 .0 .0 .0 .0 .0 .1; isBlockFlag = q .0 .0 .0 .0 .0 .0 .0 .0 .0 .0 .0 .0 .1; isPoolSum = q .0 .0 .0 .0 .0 .0 .0 .0 .0 .0 .0 .1; isArgument = q .0 .0 .0 .0 .0 .0 .0 .0 .0 .0 .1; isWait = q .0 .0 .0 .0 .0 .0 .0 .0 .0 .1; isArrivals = q .0 .0 .0 .0 .0 .0 .0 .0 .1; isPriorities = q .0 .0 .0 .0 .0 .0 .0 .1; isCeiling = q .0 .0 .0 .0 .0 .0 .1; isLocking = q .0 .0 .0 .0 .0 .1; isGetting = q .0 .0 .0 .0 .1; isReceiving = q .0 .0 .0 .1; isFirstSender = q .0 .0 .1; isLayout = q .0 .1; isOutbox = q .1 }),
+        (λ v. c21 .1 (((((((((((((((((((((v .isTaskLists, v .isMutexLists), v .isBufferLists), v .isPoolLists), v .isLengths), v .isTaskRange), v .isMutexRange), v .isBufferRange), v .isPoolRange), v .isBlockFlag), v .isPoolSum), v .isArgument), v .isWait), v .isArrivals), v .isPriorities), v .isCeiling), v .isLocking), v .isGetting), v .isReceiving), v .isFirstSender), v .isLayout), v .isOutbox)),
+      )

@@ -152,3 +152,28 @@ module _ (p : ℕ → Bool) where
   none-agrees n =
       let k = none-from 1 n (omega arith) in
       ((λ e i low high. k .0 e i low (omega arith)), (λ f. k .1 (λ i low high. f i low (omega arith))))
+
+-- of the numbers 1 to n, where the test is known to agree only there
+module _ (p : ℕ → Bool) (P : ℕ → Type 0) where
+  within-from : (a n : ℕ) → ((i : ℕ) → a ≤ i → i < a + n → Agrees (p i) (P i)) → Agrees (all p (countFrom a n)) ((i : ℕ) → a ≤ i → i < a + n → P i)
+  within-from a zero h = ((λ e i low high. absurd (omega arith)), (λ f. refl))
+  within-from a (suc n) h =
+      let k = and-agrees (p a) (all p (countFrom (suc a) n)) (h a (omega arith) (omega arith)) (within-from (suc a) n (λ i low high. h i (omega arith) (omega arith))) in
+      ((λ e. cut (k .0 e)), (λ f. k .1 (f a (omega arith) (omega arith), (λ i low high. f i (omega arith) (omega arith)))))
+    where
+      cut : P a × ((i : ℕ) → suc a ≤ i → i < suc a + n → P i) → (i : ℕ) → a ≤ i → i < a + suc n → P i
+      cut q i low high = go (ℕ-discrete a i)
+        where
+          go : Dec (a ≡ i) → P i
+          go (yes e) = subst P e (q .0)
+          go (no d) = q .1 i (omega arith) (omega arith)
+
+  pub each-within : (n : ℕ) → ((i : ℕ) → 1 ≤ i → i ≤ n → Agrees (p i) (P i)) → Agrees (all p (upTo n)) (Each n P)
+  each-within n h =
+      let k = within-from 1 n (λ i low high. h i low (omega arith)) in
+      ((λ e i low high. k .0 e i low (omega arith)), (λ f. k .1 (λ i low high. f i low (omega arith))))
+
+-- one test more, whose agreement may rest on what the tests before it say
+pub then-agrees : {A B : Type 0} (a b : Bool) → Agrees a A → (A → Agrees b B) → Agrees (a && b) (A × B)
+then-agrees true b f g = let q = f .0 refl in ((λ e. (q, g q .0 e)), (λ r. g (r .0) .1 (r .1)))
+then-agrees false b f g = ((λ e. absurd (false≢true e)), (λ r. f .1 (r .0)))
