@@ -19,7 +19,8 @@ use Rattle.priority.specs.Least.{least-first}
 use Rattle.priority.specs.Raise.{raised, Falls}
 use Rattle.priority.specs.Recompute.{allSoFar, soFar-step, soFar-falls}
 use Rattle.priority.specs.Effective.{raised-all}
-use Rattle.priority.specs.Own.{ownOf, numbered-at, holdsCeiling}
+use Rattle.priority.specs.Own.{ownOf, holdsCeiling}
+use Rattle.model.proofs.NumberLaws.{numbered-at}
 use Rattle.priority.specs.Walk.{awaited, raisedKernel, MayRaise, place-length, awaited-none}
 
 -- no task has a priority yet

@@ -1,53 +1,29 @@
 -- A task's own priority, mutex by mutex, and what a number read from the state names. Assumes nothing.
 use Prim.Native.Nat.{ℕ, zero, suc, _≤_, _<_, min}
-use native.Mathlib.Numerals.{one-add}
 use native.Mathlib.Omega.{arith}
 use mathlib.Core.Path.{_≡_, _∙_, refl, sym, ap}
 use mathlib.Core.Logic.{_≢_, _⊎_, inl, inr}
 use mathlib.Core.Bool.{Bool, true, false, _&&_, cond}
 use mathlib.Core.List.{List}
-use lib.Seq.{getD-drop}
 use lib.Dec.{eqb, ltb}
-use borrow.Author.Tests.{eqb-true, eqb-false, ltb-true, ltb-false, eq-eqb, ne-eqb}
+use borrow.Author.Tests.{eq-eqb, ne-eqb}
 use Rattle.model.specs.Sizes.{tasks, mutexes}
 use Rattle.model.specs.Lists.{_!_}
 use Rattle.model.specs.Facts.{Facts, ceilinged}
 use Rattle.model.specs.Priority.{ownPriority}
 use Rattle.model.specs.Kernel.{Kernel, facts, numbered}
-use Rattle.model.specs.Number.{wordNumber, maybeTask, maybeMutex, taskWord, mutexWord}
+use Rattle.model.specs.Number.{wordNumber, maybeTask, maybeMutex}
 use Rattle.model.specs.declared.number.TaskNumber.{TaskNumber}
 use Rattle.model.specs.declared.number.MaybeTask.{MaybeTask}
 use Rattle.model.specs.declared.number.MaybeTask as mTask
 use Rattle.model.specs.declared.number.MutexNumber.{MutexNumber}
 use Rattle.model.specs.declared.number.MaybeMutex.{MaybeMutex}
 use Rattle.model.specs.declared.number.MaybeMutex as mMutex
+use Rattle.model.proofs.NumberLaws.{Names, numbered-at, task-there, task-none, mutex-there, mutex-none}
 use Rattle.priority.specs.Least.{least}
 use Rattle.priority.specs.Recompute.{least-suc}
 
 -- ---- numbers
-
--- an entry that stands for an object is the state's own
-pub numbered-at : (xs : List ℕ) (i : ℕ) → 1 ≤ i → numbered xs ! i ≡ xs ! i
-numbered-at xs zero h = absurd (omega arith)
-numbered-at xs (suc i) h = getD-drop 1 xs i 0 ∙ ap (λ (j : ℕ). xs ! j) (one-add i)
-
--- a word names an object exactly if it is a number from 1 to the last
-module _ (n last : ℕ) where
-  named : wordNumber n last ≢ 0 → (wordNumber n last ≡ n) × (1 ≤ n) × (n ≤ last)
-  unfolding wordNumber
-  named h = go (ltb last n) refl h
-    where
-      go : (b : Bool) → ltb last n ≡ b → cond b 0 n ≢ 0 → (cond b 0 n ≡ n) × (1 ≤ n) × (n ≤ last)
-      go true e h = absurd (h refl)
-      go false e h = (refl, omega (arith, h), ltb-false _ _ e)
-
-  unnamed : wordNumber n last ≡ 0 → (n ≡ 0) ⊎ (last < n)
-  unfolding wordNumber
-  unnamed h = go (ltb last n) refl h
-    where
-      go : (b : Bool) → ltb last n ≡ b → cond b 0 n ≡ 0 → (n ≡ 0) ⊎ (last < n)
-      go true e h = inr (ltb-true _ _ e)
-      go false e h = inl h
 
 -- what the word is if a number m was made from it
 pub record Named (n last m : ℕ) : Type 0 where
@@ -55,48 +31,23 @@ pub record Named (n last m : ℕ) : Type 0 where
   pub low : 1 ≤ m
   pub high : m ≤ last
 
-named-as : (n last m : ℕ) → m ≡ wordNumber n last → wordNumber n last ≢ 0 → Named n last m
-named-as n last m e d =
-    let q : m ≡ n = e ∙ named n last d .0 in record { same = q; low = rw q (named n last d .1); high = rw q (named n last d .2) }
+named-as : (n last m : ℕ) → Names last n m → Named n last m
+named-as n last m h = record { same = h .0; low = rw (h .0) (h .1); high = rw (h .0) (h .2) }
 
 -- the two cases of each range check: a number was made, or none
 module _ {r : MaybeTask} (n : ℕ) (e : r ≡ maybeTask (wordNumber n tasks)) where
   pub task-named : (t : TaskNumber) → r ≡ mTask.the-variants.Task t → Named n tasks (t .0)
-  unfolding maybeTask
-  task-named t q = go (eqb (wordNumber n tasks) 0) refl (sym q ∙ e)
-    where
-      go : (b : Bool) → eqb (wordNumber n tasks) 0 ≡ b
-          → mTask.the-variants.Task t ≡ cond b mTask.the-variants.Nothing (mTask.the-variants.Task (record { 0 = wordNumber n tasks })) → Named n tasks (t .0)
-      go true b e = let z : _≡_ {A = ℕ} 0 1 = cc in absurd (omega arith)
-      go false b e = named-as n tasks (t .0) (ap taskWord e) (eqb-false _ 0 b)
+  task-named t q = named-as n tasks (t .0) (task-there n t (sym e ∙ q))
 
   pub task-unnamed : r ≡ mTask.the-variants.Nothing → (n ≡ 0) ⊎ (tasks < n)
-  unfolding maybeTask
-  task-unnamed q = go (eqb (wordNumber n tasks) 0) refl (sym q ∙ e)
-    where
-      go : (b : Bool) → eqb (wordNumber n tasks) 0 ≡ b
-          → mTask.the-variants.Nothing ≡ cond b mTask.the-variants.Nothing (mTask.the-variants.Task (record { 0 = wordNumber n tasks })) → (n ≡ 0) ⊎ (tasks < n)
-      go true b e = unnamed n tasks (eqb-true _ 0 b)
-      go false b e = let z : _≡_ {A = ℕ} 0 1 = cc in absurd (omega arith)
+  task-unnamed q = task-none n (sym e ∙ q)
 
 module _ {r : MaybeMutex} (n : ℕ) (e : r ≡ maybeMutex (wordNumber n mutexes)) where
   pub mutex-named : (m : MutexNumber) → r ≡ mMutex.the-variants.Mutex m → Named n mutexes (m .0)
-  unfolding maybeMutex
-  mutex-named m q = go (eqb (wordNumber n mutexes) 0) refl (sym q ∙ e)
-    where
-      go : (b : Bool) → eqb (wordNumber n mutexes) 0 ≡ b
-          → mMutex.the-variants.Mutex m ≡ cond b mMutex.the-variants.Nothing (mMutex.the-variants.Mutex (record { 0 = wordNumber n mutexes })) → Named n mutexes (m .0)
-      go true b e = let z : _≡_ {A = ℕ} 0 1 = cc in absurd (omega arith)
-      go false b e = named-as n mutexes (m .0) (ap mutexWord e) (eqb-false _ 0 b)
+  mutex-named m q = named-as n mutexes (m .0) (mutex-there n m (sym e ∙ q))
 
   pub mutex-unnamed : r ≡ mMutex.the-variants.Nothing → (n ≡ 0) ⊎ (mutexes < n)
-  unfolding maybeMutex
-  mutex-unnamed q = go (eqb (wordNumber n mutexes) 0) refl (sym q ∙ e)
-    where
-      go : (b : Bool) → eqb (wordNumber n mutexes) 0 ≡ b
-          → mMutex.the-variants.Nothing ≡ cond b mMutex.the-variants.Nothing (mMutex.the-variants.Mutex (record { 0 = wordNumber n mutexes })) → (n ≡ 0) ⊎ (mutexes < n)
-      go true b e = unnamed n mutexes (eqb-true _ 0 b)
-      go false b e = let z : _≡_ {A = ℕ} 0 1 = cc in absurd (omega arith)
+  mutex-unnamed q = mutex-none n (sym e ∙ q)
 
 -- a number in the range names something
 pub inside : {n last : ℕ} {A : Type 0} → 1 ≤ n → n ≤ last → (n ≡ 0) ⊎ (last < n) → A

@@ -19,7 +19,8 @@ use Rattle.state.specs.Words.{wordCount, sizes, fields, kernel, sized, size-of,
 use Rattle.state.specs.Field as field
 use Rattle.priority.specs.Raise.{raised, Falls, stops, goes, ends-here, falls-on}
 use Rattle.priority.specs.Effective.{awaited-ends}
-use Rattle.priority.specs.Own.{numbered-at, Named}
+use Rattle.priority.specs.Own.{Named}
+use Rattle.model.proofs.NumberLaws.{numbered-at}
 
 -- ---- what is raised
 
