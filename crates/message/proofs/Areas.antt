@@ -5,12 +5,12 @@ use native.Mathlib.Nat.{zero-add, suc-add, mul-le-mul-right}
 use native.Mathlib.Omega.{arith}
 use mathlib.Core.List.{List, [], _∷_, _++_, append-assoc}
 use mathlib.Core.Path.{_≡_, _∙_, refl, sym, ap}
-use lib.ListN.{length, take, drop, length-append, length-drop, length-replicate}
+use lib.ListN.{length, take, drop, length-append, length-take, length-drop, length-replicate}
 use lib.Seq.{take-at, drop-at, take-take, take-nil, length-take-le, drop-append-add, drop-drop}
 use Rattle.model.specs.Sizes.{regionBytes, messageBytes}
 use Rattle.model.specs.Lists.{zeros, padded}
 use Rattle.model.specs.Message.{part, withPart, region, withRegion, outboxMessage, withOutboxMessage}
-use Rattle.message.proofs.Parts.{next-part}
+use Rattle.message.proofs.Parts.{next-part, part-size}
 
 -- ---- parts of one size
 
@@ -123,3 +123,8 @@ module _ (t : ℕ) (s m : List ℕ) (low : 1 ≤ t) (high : t * messageBytes ≤
 
   pub outbox-behind : length m ≤ messageBytes → drop (length m) (part messageBytes t (withOutboxMessage t s m)) ≡ zeros (messageBytes - length m)
   outbox-behind h = ap (drop (length m)) outbox-same ∙ drop-padded messageBytes m h
+
+-- a sender's message has as many bytes as its wait's argument says
+pub length-outboxMessage : (t n : ℕ) (s : List ℕ) → n ≤ messageBytes → 1 ≤ t → t * messageBytes ≤ length s → length (outboxMessage t n s) ≡ n
+unfolding outboxMessage
+length-outboxMessage t n s h low high = rw (length-take, part-size messageBytes t s low high) (omega arith)

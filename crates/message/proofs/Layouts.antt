@@ -227,3 +227,8 @@ module _ (maxmsz : ℕ) (small : maxmsz < 256) where
 
   pub valid-layout : (used : ℕ) (r : List ℕ) → length r ≡ regionBytes → Layout maxmsz used r → layout regionBytes maxmsz used r ≡ true
   valid-layout used r size d = valid-within regionBytes used r size (omega arith) d
+
+  -- the test says exactly what the statement does
+  pub layout-exact : (used : ℕ) (r : List ℕ) → length r ≡ regionBytes → used ≤ regionBytes
+      → (layout regionBytes maxmsz used r ≡ true → Layout maxmsz used r) × (Layout maxmsz used r → layout regionBytes maxmsz used r ≡ true)
+  layout-exact used r size h = (layout-valid used r size h, valid-layout used r size)

@@ -10,6 +10,7 @@ use lib.Seq.{take-all, take-take, drop-drop}
 use Rattle.model.specs.Sizes.{regionBytes, messageBytes}
 use Rattle.model.specs.Lists.{padded}
 use Rattle.model.specs.Message.{oldestLength, oldest, part, withPart, region, withRegion, outboxMessage, withOutboxMessage}
+use Rattle.message.specs.Parts.{Bounds}
 
 -- what counts of a number that goes beyond a list
 pub take-min : (n : ℕ) (l : List ℕ) → take (min n (length l)) l ≡ take n l
@@ -44,12 +45,7 @@ pub part-size : (size n : ℕ) (s : List ℕ) → 1 ≤ n → n * size ≤ lengt
 unfolding part
 part-size size n s h l = rw (length-take, length-drop) (omega (arith, next-part size n h))
 
--- where part n of a list begins and ends, within the list
-pub record Bounds (size n : ℕ) (s : List ℕ) (a e : ℕ) : Type 0 where
-  pub begins : a ≡ min (pred n * size) (length s)
-  pub ends : e ≡ min (a + size) (length s)
-
-module _ {size n : ℕ} {s : List ℕ} {a e : ℕ} (b : Bounds size n s a e) where
+module _ {size n : ℕ} (s : List ℕ) {a e : ℕ} (b : Bounds size n (length s) a e) where
   from-a : drop a s ≡ drop (pred n * size) s
   from-a = rw (b .begins) (drop-min (pred n * size) s)
 
@@ -72,39 +68,34 @@ module _ {size n : ℕ} {s : List ℕ} {a e : ℕ} (b : Bounds size n s a e) whe
   part-back h x =
       rw (behind h) (rw (b .begins) (rw (take-min (pred n * size) s) (sym (append-assoc (take (pred n * size) s) x (drop (n * size) s)))))
 
-pub region-lent : {n : ℕ} {s : List ℕ} {a e : ℕ} → Bounds regionBytes n s a e → take (e - a) (drop a s) ≡ region n s
+pub region-lent : {n : ℕ} (s : List ℕ) {a e : ℕ} → Bounds regionBytes n (length s) a e → take (e - a) (drop a s) ≡ region n s
 unfolding region
-region-lent b = part-lent b
+region-lent s b = part-lent s b
 
 -- a buffer's region lent to a routine that makes f of it
-pub region-back : {n : ℕ} {s : List ℕ} {a e : ℕ} → Bounds regionBytes n s a e → 1 ≤ n → (f : List ℕ → List ℕ) {x : List ℕ} → x ≡ f (take (e - a) (drop a s))
+pub region-back : {n : ℕ} (s : List ℕ) {a e : ℕ} → Bounds regionBytes n (length s) a e → 1 ≤ n → (f : List ℕ → List ℕ) {x : List ℕ} → x ≡ f (take (e - a) (drop a s))
     → take a s ++ (x ++ drop (e - a) (drop a s)) ≡ withRegion n s (f (region n s))
 unfolding region withRegion
-region-back b h f {x} q = rw (q, ← part-lent b) (part-back b h _)
+region-back s b h f {x} q = rw (q, ← part-lent s b) (part-back s b h _)
 
 -- a task's part of the outbox lent to a routine that puts a message there
-pub outbox-back : {n : ℕ} {s : List ℕ} {a e : ℕ} → Bounds messageBytes n s a e → 1 ≤ n → n * messageBytes ≤ length s → (m : List ℕ) {x : List ℕ}
+pub outbox-back : {n : ℕ} (s : List ℕ) {a e : ℕ} → Bounds messageBytes n (length s) a e → 1 ≤ n → n * messageBytes ≤ length s → (m : List ℕ) {x : List ℕ}
     → x ≡ padded (length (take (e - a) (drop a s))) m → take a s ++ (x ++ drop (e - a) (drop a s)) ≡ withOutboxMessage n s m
 unfolding withOutboxMessage
-outbox-back {n} {s} b h l m q =
-    rw q (rw (part-lent b) (rw (part-size messageBytes n s h l) (part-back b h (padded messageBytes m))))
+outbox-back {n} s b h l m q =
+    rw q (rw (part-lent s b) (rw (part-size messageBytes n s h l) (part-back s b h (padded messageBytes m))))
 
 pub region-size : (n : ℕ) (s : List ℕ) → 1 ≤ n → n * regionBytes ≤ length s → length (region n s) ≡ regionBytes
 unfolding region
 region-size n s h l = part-size regionBytes n s h l
 
--- a message where it lies: k bytes from a on
-shown : (x n : ℕ) (s : List ℕ) {a k : ℕ} → a ≡ min x (length s) → k ≡ min n (length s - a) → take k (drop a s) ≡ take n (drop x s)
-shown x n s {a} {k} p q =
-    let e : k ≡ min n (length (drop a s)) = q ∙ rw length-drop in
-    rw e (take-min n (drop a s) ∙ ap (take n) (ap (λ (i : ℕ). drop i s) p ∙ drop-min x s))
-
+-- messages where they lie: the oldest of a region, k bytes from a on; and the first n bytes of a task's part of the outbox
 pub oldest-shown : (s : List ℕ) {a k : ℕ} → a ≡ min 4 (length s) → k ≡ min (oldestLength s) (length s - a) → take k (drop a s) ≡ oldest s
 unfolding oldest
-oldest-shown s p q = shown 4 (oldestLength s) s p q
+oldest-shown s {a} {k} p q =
+    let e : k ≡ min (oldestLength s) (length (drop a s)) = q ∙ rw length-drop in
+    rw e (take-min (oldestLength s) (drop a s) ∙ ap (take (oldestLength s)) (ap (λ (i : ℕ). drop i s) p ∙ drop-min 4 s))
 
-pub outbox-shown : (t n : ℕ) (s : List ℕ) {a k : ℕ} → a ≡ min (pred t * messageBytes) (length s) → k ≡ min (min n messageBytes) (length s - a)
-    → take k (drop a s) ≡ outboxMessage t n s
-unfolding outboxMessage part
-outbox-shown t n s p q =
-    shown (pred t * messageBytes) (min n messageBytes) s p q ∙ take-least n messageBytes (drop (pred t * messageBytes) s)
+pub outbox-shown : {t : ℕ} (n : ℕ) (s : List ℕ) {a e : ℕ} → Bounds messageBytes t (length s) a e → take (min n (e - a)) (drop a s) ≡ outboxMessage t n s
+unfolding outboxMessage
+outbox-shown n s {a} {e} b = take-least n (e - a) (drop a s) ∙ ap (take n) (part-lent s b)

@@ -1,23 +1,24 @@
 -- The next message: a receive takes what was shown, and what is shown of a message is not empty. Assumes nothing.
 use Prim.Native.Nat.{ℕ, _*_, _≤_, _<_}
+use native.Mathlib.Decide.{ℕ-discrete}
 use native.Mathlib.Omega.{arith}
 use mathlib.Core.Bool.{Bool, true, false, not}
 use mathlib.Core.List.{List, []}
-use mathlib.Core.Path.{_≡_, refl, ap}
+use mathlib.Core.Path.{_≡_, _∙_, refl, sym, ap}
 use lib.Dec.{eqb}
 use lib.IntN.{ℤ}
 use lib.ListN.{length, length-take}
 use borrow.Author.Tests.{eq-eqb, ne-eqb}
-use Rattle.model.specs.Sizes.{regionBytes, messageBytes}
+use Rattle.model.specs.Sizes.{tasks, regionBytes, messageBytes, outboxBytes}
 use Rattle.model.specs.Lists.{_!_}
 use Rattle.model.specs.Facts.{queue, sending}
 use Rattle.model.specs.Code.{number}
 use Rattle.model.specs.Kernel.{Kernel}
 use Rattle.model.specs.World.{Lent, World, Message, queueFront}
-use Rattle.model.specs.Message.{oldest, outboxMessage}
+use Rattle.model.specs.Message.{region, oldest, outboxMessage}
 use Rattle.model.specs.Act.{sendersMessage}
 use Rattle.model.specs.Effect.{rcvMbf}
-use Rattle.model.specs.Valid.{Layout}
+use Rattle.model.specs.Valid.{From, Layout}
 use Rattle.message.specs.declared.next.Location.the-variants.{Stored, Sent, Nowhere}
 use Rattle.message.specs.NextMessage.{messageAt, located, hasBuffer, nextLocation, nextMessage}
 use Rattle.message.proofs.Parts.{part-size}
@@ -73,3 +74,36 @@ stored-shown {r = r} small room some d =
 pub sent-shown : (t n : ℕ) (outbox : List ℕ) → 1 ≤ n → 1 ≤ t → t * messageBytes ≤ length outbox → outboxMessage t n outbox ≡ [] → ⊥
 unfolding outboxMessage
 sent-shown t n outbox h low high = not-empty _ (rw (length-take, part-size messageBytes t outbox low high) (omega arith))
+
+-- What validity says of a buffer and of its first sender, if there is one.
+pub record Stands (x : Lent) (b : ℕ) : Type 0 where
+  pub longest : x .kernel .buffers .maxmsz ! b < 256
+  pub room : x .kernel .buffers .used ! b ≤ regionBytes
+  pub stored : Layout (x .kernel .buffers .maxmsz ! b) (x .kernel .buffers .used ! b) (region b (x .store))
+  pub whole : length (x .outbox) ≡ outboxBytes
+  pub sender : (queueFront (x .kernel) (queue sending b) ≡ 0 → ⊥)
+      → From 1 tasks (queueFront (x .kernel) (queue sending b)) × (1 ≤ x .kernel .tasks .argument ! queueFront (x .kernel) (queue sending b))
+
+-- "An empty part is shown exactly when order 1, 5 or 6 applies or there is no message": where none of them applies, an empty part says that
+-- there is no message. The other direction is `next-none` and `next-nowhere`.
+pub next-empty : (x : Lent) (n : ℤ) → hasBuffer x n ≡ true → Stands x (number n) → nextMessage x n ≡ [] → located (x .kernel) (number n) ≡ Nowhere
+unfolding messageAt
+next-empty x n h v e = go (ℕ-discrete (x .kernel .buffers .used ! number n) 0) (ℕ-discrete (queueFront (x .kernel) (queue sending (number n))) 0)
+  where
+    go : Dec (x .kernel .buffers .used ! number n ≡ 0) → Dec (queueFront (x .kernel) (queue sending (number n)) ≡ 0)
+        → located (x .kernel) (number n) ≡ Nowhere
+    go (no p) q =
+        let shown : oldest (region (number n) (x .store)) ≡ [] = rw (located-stored (x .kernel) (number n) p) at (sym (next-here x n h) ∙ e) in
+        absurd (stored-shown (v .longest) (v .room) p (v .stored) shown)
+    go (yes p) (no q) =
+        let t : ℕ = queueFront (x .kernel) (queue sending (number n)) in
+        let s = v .sender q in
+        let shown : outboxMessage t (x .kernel .tasks .argument ! t) (x .outbox) ≡ [] =
+        rw (located-sent (x .kernel) (number n) p q) at (sym (next-here x n h) ∙ e)
+        in
+        absurd (sent-shown t (x .kernel .tasks .argument ! t) (x .outbox) (s .1) (s .0 .0) (let l = v .whole in let m = s .0 .1 in omega arith) shown)
+    go (yes p) (yes q) = located-nowhere (x .kernel) (number n) p q
+
+pub next-nowhere : (x : Lent) (n : ℤ) → hasBuffer x n ≡ true → located (x .kernel) (number n) ≡ Nowhere → nextMessage x n ≡ []
+unfolding messageAt
+next-nowhere x n h e = next-here x n h ∙ rw e

@@ -1,2 +1,3 @@
 pub mod NextMessage
 pub mod Packing
+pub mod Parts

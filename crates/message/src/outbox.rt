@@ -2,12 +2,11 @@
 use super::copy::copy_in;
 use super::copy::fill_zero;
 use super::copy::least;
-use super::part::part_start;
+use super::part::outbox_part;
 use super::region::clear;
 use super::store::store_append;
 use model::number::BufferNumber;
 use model::number::TaskNumber;
-use model::sizes::MESSAGE_BYTES;
 ghost use mathlib.Core.Path.{_≡_};
 ghost use mathlib.Core.List.{[]};
 ghost use Prim.Native.Nat.{_≤_};
@@ -31,8 +30,9 @@ pub fn outbox_put(outbox: &mut [u8], t: TaskNumber, m: &[u8], n: usize)
     requires { ⌜ From 1 tasks (t .0) ⌝ }
     ensures { λ _. ⌜ now (outbox .exit) ≡ withOutboxMessage (t .0) (now (outbox .entry)) (take n (now (m .entry))) ⌝ }
 {
-    let a = part_start(t.word(), MESSAGE_BYTES, outbox.len());
-    let e = least(a + MESSAGE_BYTES, outbox.len());
+    let p = outbox_part(t, outbox.len());
+    let a = p.start;
+    let e = p.end;
     fill(&mut outbox[a..e], m, n);
 }
 
@@ -41,8 +41,9 @@ pub fn outbox_clear(outbox: &mut [u8], t: TaskNumber)
     requires { ⌜ From 1 tasks (t .0) ⌝ }
     ensures { λ _. ⌜ now (outbox .exit) ≡ withOutboxMessage (t .0) (now (outbox .entry)) [] ⌝ }
 {
-    let a = part_start(t.word(), MESSAGE_BYTES, outbox.len());
-    let e = least(a + MESSAGE_BYTES, outbox.len());
+    let p = outbox_part(t, outbox.len());
+    let a = p.start;
+    let e = p.end;
     clear(&mut outbox[a..e]);
 }
 
@@ -50,8 +51,9 @@ pub fn outbox_clear(outbox: &mut [u8], t: TaskNumber)
 pub fn outbox_message<'a>(outbox: &'a [u8], t: TaskNumber, n: usize) -> &'a [u8]
     ensures { λ m. ⌜ now m ≡ outboxMessage (t .0) n (now (outbox .entry)) ⌝ }
 {
-    let a = part_start(t.word(), MESSAGE_BYTES, outbox.len());
-    let e = a + least(least(n, MESSAGE_BYTES), outbox.len() - a);
+    let p = outbox_part(t, outbox.len());
+    let a = p.start;
+    let e = a + least(n, p.end - a);
     &outbox[a..e]
 }
 

@@ -3,15 +3,13 @@
 //
 // A buffer's number is at least 1: `withRegion 0` would make the store longer, which no slice can be. Where the number is above
 // the last, or the store is too short, the part that is lent is shorter or empty, and so is the definition's region.
-use super::copy::least;
-use super::part::part_start;
+use super::part::region_part;
 use super::region::append;
 use super::region::clear;
 use super::region::oldest;
 use super::region::oldest_length;
 use super::region::remove;
 use model::number::BufferNumber;
-use model::sizes::REGION_BYTES;
 ghost use mathlib.Core.Path.{_≡_};
 ghost use Prim.Native.Nat.{_≤_};
 ghost use lib.ListN.{length, take};
@@ -24,8 +22,9 @@ pub fn store_append(store: &mut [u8], b: BufferNumber, used: usize, m: &[u8], n:
     requires { ⌜ 1 ≤ b .0 ⌝ }
     ensures { λ _. ⌜ now (store .exit) ≡ withRegion (b .0) (now (store .entry)) (appended (region (b .0) (now (store .entry))) used (take n (now (m .entry)))) ⌝ }
 {
-    let a = part_start(b.word(), REGION_BYTES, store.len());
-    let e = least(a + REGION_BYTES, store.len());
+    let p = region_part(b, store.len());
+    let a = p.start;
+    let e = p.end;
     append(&mut store[a..e], used, m, n);
 }
 
@@ -33,8 +32,9 @@ pub fn store_remove(store: &mut [u8], b: BufferNumber)
     requires { ⌜ 1 ≤ b .0 ⌝ }
     ensures { λ _. ⌜ now (store .exit) ≡ withRegion (b .0) (now (store .entry)) (removed (region (b .0) (now (store .entry)))) ⌝ }
 {
-    let a = part_start(b.word(), REGION_BYTES, store.len());
-    let e = least(a + REGION_BYTES, store.len());
+    let p = region_part(b, store.len());
+    let a = p.start;
+    let e = p.end;
     remove(&mut store[a..e]);
 }
 
@@ -44,16 +44,18 @@ pub fn store_clear(store: &mut [u8], b: BufferNumber)
     requires { ⌜ From 1 buffers (b .0) ⌝ }
     ensures { λ _. ⌜ now (store .exit) ≡ withRegion (b .0) (now (store .entry)) (zeros regionBytes) ⌝ }
 {
-    let a = part_start(b.word(), REGION_BYTES, store.len());
-    let e = least(a + REGION_BYTES, store.len());
+    let p = region_part(b, store.len());
+    let a = p.start;
+    let e = p.end;
     clear(&mut store[a..e]);
 }
 
 pub fn store_oldest_length(store: &[u8], b: BufferNumber) -> u32
     ensures { λ n. ⌜ n ≡ oldestLength (region (b .0) (now (store .entry))) ⌝ }
 {
-    let a = part_start(b.word(), REGION_BYTES, store.len());
-    let e = least(a + REGION_BYTES, store.len());
+    let p = region_part(b, store.len());
+    let a = p.start;
+    let e = p.end;
     oldest_length(&store[a..e])
 }
 
@@ -61,7 +63,8 @@ pub fn store_oldest_length(store: &[u8], b: BufferNumber) -> u32
 pub fn store_oldest<'a>(store: &'a [u8], b: BufferNumber) -> &'a [u8]
     ensures { λ m. ⌜ now m ≡ oldest (region (b .0) (now (store .entry))) ⌝ }
 {
-    let a = part_start(b.word(), REGION_BYTES, store.len());
-    let e = least(a + REGION_BYTES, store.len());
+    let p = region_part(b, store.len());
+    let a = p.start;
+    let e = p.end;
     oldest(&store[a..e])
 }

@@ -1,5 +1,5 @@
 -- `outbox_message` meets its contract: the part lies within the outbox, as the definition's does. Assumes nothing.
-use Prim.Native.Nat.{_+_, _-_}
+use Prim.Native.Nat.{ℕ, _+_, _-_, min}
 use native.Mathlib.Omega.{arith}
 use mathlib.Core.Path.{_≡_}
 use borrow.Author.Needs.{needs}
@@ -7,20 +7,14 @@ use Rattle.message.proofs.Parts.{outbox-shown}
 use Rattle.message.proofs.outbox.outbox_message.Statement.{statement}
 use Rattle.message.proofs.outbox.outbox_message.Tie as tie
 
-word-requires : tie.Need-word-requires
-word-requires c κs = search needs
-
-part-start-requires : tie.Need-part-start-requires
-part-start-requires c κs = search needs
-
-least-requires : tie.Need-least-requires
-least-requires c κs = search needs
+outbox-part-requires : tie.Need-outbox-part-requires
+outbox-part-requires c κs = search needs
 
 sub-least : tie.Need-sub-least
 sub-least c = search needs
 
-least-requires-2 : tie.Need-least-requires-2
-least-requires-2 c κs = search needs
+least-requires : tie.Need-least-requires
+least-requires c κs = search needs
 
 add-e : tie.Need-add-e
 add-e c = search needs
@@ -36,21 +30,20 @@ part-result-end c = search needs
 
 returns : tie.Need-returns
 returns c =
-    let a = c .before .before .before .before .before .before .args in
-    let k = c .before .least2 .result in
-    let s = c .before .before .before .part-start .result in
-    let e : s + k - s ≡ k = omega arith in
-    rw e (outbox-shown (a .t .0) (a .n) (a .outbox .now) {a = s} {k = k} (cc) (cc))
+    let a = c .before .before .before .before .before .args in
+    let p = c .before .before .before .outbox-part in
+    let s : ℕ = p .result .start in
+    let k : ℕ = c .before .least .result in
+    let e : s + k - s ≡ min (a .n) (p .result .end - s) = omega arith in
+    rw e (outbox-shown (a .n) (a .outbox .now) (p .ensures))
 
 pub outbox-message-spec : {M : Type 1} → statement M
 outbox-message-spec =
     tie.close
     (tie.spec
-    word-requires
-    part-start-requires
-    least-requires
+    outbox-part-requires
     sub-least
-    least-requires-2
+    least-requires
     add-e
     sub-result
     part-result-start

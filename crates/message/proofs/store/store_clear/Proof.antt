@@ -4,24 +4,14 @@ use native.Mathlib.Omega.{arith}
 use mathlib.Core.Path.{_∙_, ap}
 use lib.ListN.{length}
 use borrow.Author.Needs.{needs}
-use Rattle.model.specs.Sizes.{regionBytes}
-use Rattle.model.specs.Message.{withRegion}
 use Rattle.model.specs.Lists.{zeros}
-use Rattle.message.proofs.Parts.{Bounds, region-back, region-size}
+use Rattle.model.specs.Message.{region, withRegion}
+use Rattle.message.proofs.Parts.{region-back, region-size}
 use Rattle.message.proofs.store.store_clear.Statement.{statement}
 use Rattle.message.proofs.store.store_clear.Tie as tie
 
-word-requires : tie.Need-word-requires
-word-requires c κs = search needs
-
-part-start-requires : tie.Need-part-start-requires
-part-start-requires c κs = search needs
-
-add-least : tie.Need-add-least
-add-least c = search needs
-
-least-requires : tie.Need-least-requires
-least-requires c κs = search needs
+region-part-requires : tie.Need-region-part-requires
+region-part-requires c κs = search needs
 
 sub-clear : tie.Need-sub-clear
 sub-clear c = search needs
@@ -40,21 +30,18 @@ same-length c = search needs
 
 returns : tie.Need-returns
 returns c =
-    let s = c .before .before .before .before .before in
-    let a = c .before .before .before .before .before .before .before .before .args in
-    let b : Bounds regionBytes (a .b .0) (a .store .now) (s .part-start .result) (c .before .before .before .before .least .result) = record { begins = cc; ends = cc } in
-    let p = c .before .before .before .before .before .before .before .before .pre in
-    region-back b (p .1 .0) (λ r. zeros (length r)) (c .before .before .clear .ensures)
-    ∙ ap (λ (n : ℕ). withRegion (a .b .0) (a .store .now) (zeros n)) (region-size (a .b .0) (a .store .now) (p .1 .0) (omega arith))
+    let start = c .before .before .before .before .before .before in
+    let s = start .args .store .now in
+    let b = start .args .b .0 in
+    let p = start .pre in
+    region-back s (c .before .before .before .before .region-part .ensures) (p .1 .0) (λ r. zeros (length r)) (c .before .before .clear .ensures)
+    ∙ ap (λ (n : ℕ). withRegion b s (zeros n)) (region-size b s (p .1 .0) (omega arith))
 
 pub store-clear-spec : {M : Type 1} → statement M
 store-clear-spec =
     tie.close
     (tie.spec
-    word-requires
-    part-start-requires
-    add-least
-    least-requires
+    region-part-requires
     sub-clear
     part-clear-start
     part-clear-end
