@@ -1,1 +1,2 @@
 // The check of a lent state.
+pub mod range;
