@@ -1,2 +1,4 @@
 // The check of a lent state.
+pub mod entry;
 pub mod range;
+pub mod wait;
