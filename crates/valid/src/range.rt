@@ -34,7 +34,7 @@ ghost use Rattle.model.specs.Valid.{taskRange, mutexRange, bufferRange, poolRan
 ghost use Rattle.state.specs.Words.{wordCount, kernel};
 
 // A mutex's attribute: it has a ceiling.
-const CEILINGED: u32 = 3;
+pub(crate) const CEILINGED: u32 = 3;
 
 // The largest bufsz and maxmsz, as words of the state.
 const REGION: u32 = REGION_BYTES as u32;
