@@ -1,2 +1,4 @@
 pub mod Tests
 pub mod Agree
+pub mod Loops
+pub mod Flags

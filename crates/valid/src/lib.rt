@@ -1,1 +1,5 @@
 // The check of a lent state.
+pub mod ceiling;
+pub mod entry;
+pub mod range;
+pub mod wait;

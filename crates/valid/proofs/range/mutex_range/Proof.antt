@@ -1,0 +1,16 @@
+-- `mutex_range` meets its contract: the fields read are the model's. Assumes nothing.
+use borrow.Author.Needs.{needs}
+use Rattle.model.specs.Valid.{mutexRange}
+use Rattle.valid.proofs.range.mutex_range.Statement.{statement}
+use Rattle.valid.proofs.range.mutex_range.Tie as tie
+
+returns : tie.Need-returns
+unfolding mutexRange
+returns c =
+    let r = c .before .before .before in
+    rw (c .may-hold .ensures, c .before .mutex-attribute .ensures, c .before .before .within .ensures, r .holder .ensures, r .before .ceiling .ensures, r .before .before .attribute .ensures, r .before .before .before .exists .ensures)
+
+pub mutex-range-spec : {M : Type 1} → statement M
+mutex-range-spec =
+    tie.close
+    (tie.spec (λ c κs. search needs) (λ c κs. search needs) (λ c κs. search needs) (λ c κs. search needs) (λ c κs. search needs) (λ c κs. search needs) (λ c κs. search needs) returns)

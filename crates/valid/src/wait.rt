@@ -1,0 +1,137 @@
+// 01, "Sound": what a task's wait has, and what it waits for. None's entries are seen to be 0 before these are called.
+use super::entry;
+use super::range::within;
+use model::number::MaybeTask;
+use model::number::TaskNumber;
+use model::sizes::TASKS;
+use state::task::GETTING;
+use state::task::LOCKING;
+use state::task::SENDING;
+ghost use mathlib.Core.Path.{_≡_};
+ghost use lib.ListN.{length};
+ghost use Rattle.model.specs.Sizes.{tasks, mutexes, buffers, pools};
+ghost use Rattle.model.specs.Lists.{_!_, all, upTo};
+ghost use Rattle.model.specs.Valid.{Lists, mutexLists, bufferLists, poolLists, awaitable, argument, waitFields, lockingTask};
+ghost use Rattle.state.specs.Words.{wordCount, kernel};
+
+// The most milliseconds that a timeout asks for, and the word for a wait without end.
+const LONGEST: u32 = 0x7FFF_FFFF;
+
+const ENDLESS: u32 = 0xFFFF_FFFF;
+
+// "unused entries as in the fresh bench": a sender's wait has the length of its message, 1 to the buffer's maxmsz; no other wait has an argument.
+fn argument(state: &[u32], t: TaskNumber) -> bool
+    requires { ⌜ length (now state) ≡ wordCount ⌝ }
+    requires { ⌜ Lists buffers (bufferLists (kernel (now state))) ⌝ }
+    ensures { λ r. ⌜ r ≡ argument (kernel (now (state .entry))) (t .0) ⌝ }
+{
+    let place = state::task::place(state, t);
+    let object = state::task::object(state, t);
+    let length = state::task::argument(state, t);
+    let longest = entry::maxmsz(state, object);
+    let sends = (place == SENDING) & within(1, longest, length);
+    let other = (place != SENDING) & (length == 0);
+    sends | other
+}
+
+// The entry that is 1 if the object that a task at this place waits for exists.
+fn awaited(state: &[u32], place: u32, object: u32) -> u32
+    requires { ⌜ length (now state) ≡ wordCount ⌝ }
+    requires { ⌜ Lists mutexes (mutexLists (kernel (now state))) ⌝ }
+    requires { ⌜ Lists buffers (bufferLists (kernel (now state))) ⌝ }
+    requires { ⌜ Lists pools (poolLists (kernel (now state))) ⌝ }
+    ensures { λ r. ⌜ r ≡ awaitable (kernel (now (state .entry))) place ! object ⌝ }
+{
+    if place == LOCKING {
+        return entry::mutex_exists(state, object);
+    }
+    if place == GETTING {
+        return entry::pool_exists(state, object);
+    }
+    entry::buffer_exists(state, object)
+}
+
+// "waits with 1 or more ms left or endless", each for an object that exists; without a wait its fields are 0.
+fn wait_fields(state: &[u32], t: TaskNumber) -> bool
+    requires { ⌜ length (now state) ≡ wordCount ⌝ }
+    requires { ⌜ Lists mutexes (mutexLists (kernel (now state))) ⌝ }
+    requires { ⌜ Lists buffers (bufferLists (kernel (now state))) ⌝ }
+    requires { ⌜ Lists pools (poolLists (kernel (now state))) ⌝ }
+    ensures { λ r. ⌜ r ≡ waitFields (kernel (now (state .entry))) (t .0) ⌝ }
+{
+    let place = state::task::place(state, t);
+    let object = state::task::object(state, t);
+    let left = state::task::left(state, t);
+    let stands = (place < LOCKING) & (object == 0) & (left == 0);
+    let entry = awaited(state, place, object);
+    let time = within(1, LONGEST, left) | (left == ENDLESS);
+    let waits = (LOCKING <= place) & (entry == 1) & time;
+    stands | waits
+}
+
+// "no task waiting for a mutex it holds"; "no waiters at a free mutex".
+fn locking_task(state: &[u32], t: TaskNumber) -> bool
+    requires { ⌜ length (now state) ≡ wordCount ⌝ }
+    requires { ⌜ Lists mutexes (mutexLists (kernel (now state))) ⌝ }
+    ensures { λ r. ⌜ r ≡ lockingTask (kernel (now (state .entry))) (t .0) ⌝ }
+{
+    let place = state::task::place(state, t);
+    let object = state::task::object(state, t);
+    let holder = entry::holder(state, object);
+    let n = t.word();
+    (place != LOCKING) | (holder != n) & (holder != 0)
+}
+
+// The same of every task. Each number of a loop is a task's, so no answer is given for want of one.
+pub(crate) fn arguments(state: &[u32]) -> bool
+    requires { ⌜ length (now state) ≡ wordCount ⌝ }
+    requires { ⌜ Lists buffers (bufferLists (kernel (now state))) ⌝ }
+    ensures { λ r. ⌜ r ≡ all (argument (kernel (now (state .entry)))) (upTo tasks) ⌝ }
+{
+    for n in 1..=TASKS {
+        let found = TaskNumber::from_word(n);
+        let MaybeTask::Task(t) = found else {
+            return false;
+        };
+        if !argument(state, t) {
+            return false;
+        }
+    }
+    true
+}
+
+pub(crate) fn waits(state: &[u32]) -> bool
+    requires { ⌜ length (now state) ≡ wordCount ⌝ }
+    requires { ⌜ Lists mutexes (mutexLists (kernel (now state))) ⌝ }
+    requires { ⌜ Lists buffers (bufferLists (kernel (now state))) ⌝ }
+    requires { ⌜ Lists pools (poolLists (kernel (now state))) ⌝ }
+    ensures { λ r. ⌜ r ≡ all (waitFields (kernel (now (state .entry)))) (upTo tasks) ⌝ }
+{
+    for n in 1..=TASKS {
+        let found = TaskNumber::from_word(n);
+        let MaybeTask::Task(t) = found else {
+            return false;
+        };
+        if !wait_fields(state, t) {
+            return false;
+        }
+    }
+    true
+}
+
+pub(crate) fn locking_tasks(state: &[u32]) -> bool
+    requires { ⌜ length (now state) ≡ wordCount ⌝ }
+    requires { ⌜ Lists mutexes (mutexLists (kernel (now state))) ⌝ }
+    ensures { λ r. ⌜ r ≡ all (lockingTask (kernel (now (state .entry)))) (upTo tasks) ⌝ }
+{
+    for n in 1..=TASKS {
+        let found = TaskNumber::from_word(n);
+        let MaybeTask::Task(t) = found else {
+            return false;
+        };
+        if !locking_task(state, t) {
+            return false;
+        }
+    }
+    true
+}
