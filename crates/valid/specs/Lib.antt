@@ -2,3 +2,4 @@ pub mod Tests
 pub mod Agree
 pub mod Loops
 pub mod Flags
+pub mod Waiters

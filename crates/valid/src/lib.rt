@@ -3,3 +3,4 @@ pub mod ceiling;
 pub mod entry;
 pub mod range;
 pub mod wait;
+pub mod waiter;
