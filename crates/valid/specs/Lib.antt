@@ -3,3 +3,4 @@ pub mod Agree
 pub mod Loops
 pub mod Flags
 pub mod Waiters
+pub mod Sums

@@ -1,6 +1,7 @@
 // The check of a lent state.
 pub mod ceiling;
 pub mod entry;
+pub mod pool;
 pub mod range;
 pub mod wait;
 pub mod waiter;
