@@ -1,8 +1,8 @@
 -- A test that is asked of every number of a kind, number after number: what is left to ask decides. Assumes nothing.
 use Prim.Native.Nat.{ℕ, suc, _+_, _-_, _≤_, _<_}
 use native.Mathlib.Omega.{arith}
-use mathlib.Core.Path.{_≡_, _∙_, refl, sym, ap}
-use mathlib.Core.Logic.{_⊎_, inl, inr}
+use mathlib.Core.Path.{_≡_, _∙_, sym, ap}
+use mathlib.Core.Logic.{inl, inr}
 use mathlib.Core.Bool.{Bool, true, false, _&&_}
 use Rattle.model.specs.Lists.{all, countFrom, upTo}
 use Rattle.model.proofs.NumberLaws.{Names, NamesNone}
