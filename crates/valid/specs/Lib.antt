@@ -4,3 +4,4 @@ pub mod Loops
 pub mod Flags
 pub mod Waiters
 pub mod Sums
+pub mod Arrivals

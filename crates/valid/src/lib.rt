@@ -1,4 +1,5 @@
 // The check of a lent state.
+pub mod arrival;
 pub mod ceiling;
 pub mod entry;
 pub mod pool;
