@@ -1,5 +1,8 @@
 // The check of a lent state.
+pub mod arrival;
 pub mod ceiling;
 pub mod entry;
+pub mod pool;
 pub mod range;
 pub mod wait;
+pub mod waiter;

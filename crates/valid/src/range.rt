@@ -92,7 +92,7 @@ fn task_range(state: &[u32], t: TaskNumber) -> bool
 }
 
 // "dormant ones hold no mutex": a holder is none, or a task that was started.
-fn may_hold(state: &[u32], n: u32) -> bool
+pub(crate) fn may_hold(state: &[u32], n: u32) -> bool
     requires { ⌜ length (now state) ≡ wordCount ⌝ }
     ensures { λ r. ⌜ r ≡ eqb n 0 || leb ready (kernel (now (state .entry)) .tasks .place ! n) ⌝ }
 {

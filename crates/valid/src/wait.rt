@@ -19,7 +19,8 @@ const LONGEST: u32 = 0x7FFF_FFFF;
 
 const ENDLESS: u32 = 0xFFFF_FFFF;
 
-// "unused entries as in the fresh bench": a sender's wait has the length of its message, 1 to the buffer's maxmsz; no other wait has an argument.
+// "unused entries as in the fresh bench": a sender's wait has the length of its message, 1 to the buffer's maxmsz, and no other wait has
+// an argument.
 fn argument(state: &[u32], t: TaskNumber) -> bool
     requires { ⌜ length (now state) ≡ wordCount ⌝ }
     requires { ⌜ Lists buffers (bufferLists (kernel (now state))) ⌝ }

@@ -1,0 +1,87 @@
+// 01, "Sound": "numbers in range" of the blocks' flags and of the pools' bytes.
+use super::range::within;
+use model::number::MaybePool;
+use model::number::PoolNumber;
+use model::sizes::BLOCKS;
+use model::sizes::POOL_BYTES;
+use model::sizes::POOLS;
+ghost use mathlib.Core.Path.{_≡_};
+ghost use Prim.Native.Nat.{suc, _*_};
+ghost use lib.ListN.{length};
+ghost use lib.Dec.{leb};
+ghost use Rattle.model.specs.Sizes.{pools, blocks, poolBytes};
+ghost use Rattle.model.specs.Lists.{_!_, all, countFrom, upTo};
+ghost use Rattle.model.specs.Refusal.{poolSum};
+ghost use Rattle.model.specs.Valid.{blockFlag};
+ghost use Rattle.state.specs.Words.{wordCount, kernel};
+
+// "unused entries as in the fresh bench": a flag is 0, or 1 and its block one of the pool's. Block 0 stands for none and is asked too.
+fn block_flag(state: &[u32], p: PoolNumber, b: u32) -> bool
+    requires { ⌜ length (now state) ≡ wordCount ⌝ }
+    ensures { λ r. ⌜ r ≡ blockFlag (kernel (now (state .entry))) (p .0) b ⌝ }
+{
+    let flag = state::pool::taken(state, p, b);
+    let count = state::pool::count(state, p);
+    (flag == 0) | (flag == 1) & within(1, count, b)
+}
+
+// Of every block of a pool, and of every pool. Each number of the loop over pools names one, so no answer is given for want of one.
+fn flags_of(state: &[u32], p: PoolNumber) -> bool
+    requires { ⌜ length (now state) ≡ wordCount ⌝ }
+    ensures { λ r. ⌜ r ≡ all (blockFlag (kernel (now (state .entry))) (p .0)) (countFrom 0 (suc blocks)) ⌝ }
+{
+    for b in 0..=BLOCKS {
+        if !block_flag(state, p, b) {
+            return false;
+        }
+    }
+    true
+}
+
+// None's flags, those of pool 0, are not among these.
+pub(crate) fn flags(state: &[u32]) -> bool
+    requires { ⌜ length (now state) ≡ wordCount ⌝ }
+    ensures { λ r. ⌜ r ≡ all (λ p. all (blockFlag (kernel (now (state .entry))) p) (countFrom 0 (suc blocks))) (upTo pools) ⌝ }
+{
+    for n in 1..=POOLS {
+        let found = PoolNumber::from_word(n);
+        let MaybePool::Pool(p) = found else {
+            return false;
+        };
+        if !flags_of(state, p) {
+            return false;
+        }
+    }
+    true
+}
+
+// A pool's bytes; any two words have a product.
+fn bytes(state: &[u32], p: PoolNumber) -> usize
+    requires { ⌜ length (now state) ≡ wordCount ⌝ }
+    ensures { λ r. ⌜ r ≡ kernel (now (state .entry)) .pools .count ! (p .0) * kernel (now (state .entry)) .pools .size ! (p .0) ⌝ }
+{
+    let count = state::pool::count(state, p);
+    let size = state::pool::size(state, p);
+    count as usize * size as usize
+}
+
+// "numbers in range": the live pools' bytes are no more than all pools may have. What is left of those is counted down, since the sum
+// of any four products need not be a machine number.
+pub(crate) fn pools_fit(state: &[u32]) -> bool
+    requires { ⌜ length (now state) ≡ wordCount ⌝ }
+    ensures { λ r. ⌜ r ≡ leb (poolSum (kernel (now (state .entry)))) poolBytes ⌝ }
+{
+    let mut room = POOL_BYTES as usize;
+    for n in 1..=POOLS {
+        let found = PoolNumber::from_word(n);
+        let MaybePool::Pool(p) = found else {
+            return false;
+        };
+        let taken = bytes(state, p);
+        if room < taken {
+            return false;
+        }
+        room -= taken;
+    }
+    true
+}

@@ -1,0 +1,168 @@
+// 01, "Sound": who may not wait at a pool or a buffer, since what it waits for is there. None's entries are seen to be 0 before these
+// are called.
+use super::entry;
+use message::room::fits;
+use model::number::BufferNumber;
+use model::number::MaybeBuffer;
+use model::number::MaybePool;
+use model::number::MaybeTask;
+use model::number::PoolNumber;
+use model::number::TaskNumber;
+use model::sizes::BUFFERS;
+use model::sizes::TASKS;
+use queue::front::front;
+use state::task::GETTING;
+use state::task::RECEIVING;
+use state::task::SENDING;
+ghost use mathlib.Core.Path.{_≡_};
+ghost use lib.ListN.{length};
+ghost use lib.Dec.{eqb};
+ghost use Rattle.model.specs.Sizes.{tasks, buffers, pools};
+ghost use Rattle.model.specs.Lists.{all, upTo};
+ghost use Rattle.model.specs.Refusal.{freeBlock};
+ghost use Rattle.model.specs.Valid.{Lists, bufferLists, poolLists, gettingTask, receivingTask, firstSender};
+ghost use Rattle.state.specs.Words.{wordCount, kernel};
+ghost use Rattle.valid.specs.Waiters.{noSender};
+
+// Whether a pool has no free block. A state may say any count; the flags end, and beyond them a block reads as free.
+fn all_taken(state: &[u32], p: PoolNumber) -> bool
+    requires { ⌜ length (now state) ≡ wordCount ⌝ }
+    ensures { λ r. ⌜ r ≡ eqb (freeBlock (kernel (now (state .entry))) (p .0)) 0 ⌝ }
+{
+    let count = state::pool::count(state, p);
+    for i in 0..count {
+        let flag = state::pool::taken(state, p, i + 1);
+        if flag == 0 {
+            return false;
+        }
+    }
+    true
+}
+
+// The same by a word; where no pool is named, no block is free.
+fn none_free(state: &[u32], n: u32) -> bool
+    requires { ⌜ length (now state) ≡ wordCount ⌝ }
+    requires { ⌜ Lists pools (poolLists (kernel (now state))) ⌝ }
+    ensures { λ r. ⌜ r ≡ eqb (freeBlock (kernel (now (state .entry))) n) 0 ⌝ }
+{
+    let found = PoolNumber::from_word(n);
+    let MaybePool::Pool(p) = found else {
+        return true;
+    };
+    all_taken(state, p)
+}
+
+// "no waiters at [..] a pool with free blocks".
+fn getting_task(state: &[u32], t: TaskNumber) -> bool
+    requires { ⌜ length (now state) ≡ wordCount ⌝ }
+    requires { ⌜ Lists pools (poolLists (kernel (now state))) ⌝ }
+    ensures { λ r. ⌜ r ≡ gettingTask (kernel (now (state .entry))) (t .0) ⌝ }
+{
+    let place = state::task::place(state, t);
+    let object = state::task::object(state, t);
+    (place != GETTING) | none_free(state, object)
+}
+
+// Whether a task is no sender at a buffer.
+fn no_sender(state: &[u32], b: u32, s: TaskNumber) -> bool
+    requires { ⌜ length (now state) ≡ wordCount ⌝ }
+    ensures { λ r. ⌜ r ≡ noSender (kernel (now (state .entry))) b (s .0) ⌝ }
+{
+    let place = state::task::place(state, s);
+    let object = state::task::object(state, s);
+    (place != SENDING) | (object != b)
+}
+
+fn no_senders(state: &[u32], b: u32) -> bool
+    requires { ⌜ length (now state) ≡ wordCount ⌝ }
+    ensures { λ r. ⌜ r ≡ all (noSender (kernel (now (state .entry))) b) (upTo tasks) ⌝ }
+{
+    for n in 1..=TASKS {
+        let found = TaskNumber::from_word(n);
+        let MaybeTask::Task(s) = found else {
+            return false;
+        };
+        if !no_sender(state, b, s) {
+            return false;
+        }
+    }
+    true
+}
+
+// "no receivers beside messages or senders".
+fn receiving_task(state: &[u32], t: TaskNumber) -> bool
+    requires { ⌜ length (now state) ≡ wordCount ⌝ }
+    requires { ⌜ Lists buffers (bufferLists (kernel (now state))) ⌝ }
+    ensures { λ r. ⌜ r ≡ receivingTask (kernel (now (state .entry))) (t .0) ⌝ }
+{
+    let place = state::task::place(state, t);
+    let object = state::task::object(state, t);
+    let used = entry::used(state, object);
+    (place != RECEIVING) | (used == 0) & no_senders(state, object)
+}
+
+// "no first sender that fits".
+fn first_sender(state: &[u32], b: BufferNumber) -> bool
+    requires { ⌜ length (now state) ≡ wordCount ⌝ }
+    ensures { λ r. ⌜ r ≡ firstSender (kernel (now (state .entry))) (b .0) ⌝ }
+{
+    let found = front(state, SENDING, b.word());
+    let MaybeTask::Task(t) = found else {
+        return true;
+    };
+    let used = state::buffer::used(state, b);
+    let bufsz = state::buffer::bufsz(state, b);
+    let length = state::task::argument(state, t);
+    !fits(used, bufsz, length)
+}
+
+// The same of every task and every buffer. Each number of a loop names an object, so no answer is given for want of one.
+pub(crate) fn getting_tasks(state: &[u32]) -> bool
+    requires { ⌜ length (now state) ≡ wordCount ⌝ }
+    requires { ⌜ Lists pools (poolLists (kernel (now state))) ⌝ }
+    ensures { λ r. ⌜ r ≡ all (gettingTask (kernel (now (state .entry)))) (upTo tasks) ⌝ }
+{
+    for n in 1..=TASKS {
+        let found = TaskNumber::from_word(n);
+        let MaybeTask::Task(t) = found else {
+            return false;
+        };
+        if !getting_task(state, t) {
+            return false;
+        }
+    }
+    true
+}
+
+pub(crate) fn receiving_tasks(state: &[u32]) -> bool
+    requires { ⌜ length (now state) ≡ wordCount ⌝ }
+    requires { ⌜ Lists buffers (bufferLists (kernel (now state))) ⌝ }
+    ensures { λ r. ⌜ r ≡ all (receivingTask (kernel (now (state .entry)))) (upTo tasks) ⌝ }
+{
+    for n in 1..=TASKS {
+        let found = TaskNumber::from_word(n);
+        let MaybeTask::Task(t) = found else {
+            return false;
+        };
+        if !receiving_task(state, t) {
+            return false;
+        }
+    }
+    true
+}
+
+pub(crate) fn first_senders(state: &[u32]) -> bool
+    requires { ⌜ length (now state) ≡ wordCount ⌝ }
+    ensures { λ r. ⌜ r ≡ all (firstSender (kernel (now (state .entry)))) (upTo buffers) ⌝ }
+{
+    for n in 1..=BUFFERS {
+        let found = BufferNumber::from_word(n);
+        let MaybeBuffer::Buffer(b) = found else {
+            return false;
+        };
+        if !first_sender(state, b) {
+            return false;
+        }
+    }
+    true
+}
