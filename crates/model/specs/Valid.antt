@@ -249,13 +249,20 @@ layout (suc n) maxmsz used r =
           && layout n maxmsz (used - cost l) (drop (cost l) r)
     ]
 
--- a sender's message stands first in its part of the outbox; a task that sends nothing has a message of no bytes
-unfoldable pub Outbox : Lent → ℕ → Type 0
-Outbox x t =
-    drop (x .kernel .tasks .argument ! t) (part messageBytes t (x .outbox)) ≡ zeros (messageBytes - x .kernel .tasks .argument ! t)
+-- of a buffer: its region, by what it says of its messages
+abbrev pub RegionLayout : Kernel → List ℕ → ℕ → Type 0
+RegionLayout k store b = Layout (k .buffers .maxmsz ! b) (k .buffers .used ! b) (region b store)
 
-unfoldable pub outboxPart : Lent → ℕ → Bool
-outboxPart x t = allZero (drop (x .kernel .tasks .argument ! t) (part messageBytes t (x .outbox)))
+abbrev pub regionLayout : Kernel → List ℕ → ℕ → Bool
+regionLayout k store b = layout regionBytes (k .buffers .maxmsz ! b) (k .buffers .used ! b) (region b store)
+
+-- a sender's message stands first in its part of the outbox; a task that sends nothing has a message of no bytes
+unfoldable pub Outbox : Kernel → List ℕ → ℕ → Type 0
+Outbox k outbox t =
+    drop (k .tasks .argument ! t) (part messageBytes t outbox) ≡ zeros (messageBytes - k .tasks .argument ! t)
+
+unfoldable pub outboxPart : Kernel → List ℕ → ℕ → Bool
+outboxPart k outbox t = allZero (drop (k .tasks .argument ! t) (part messageBytes t outbox))
 
 -- ---- all clauses
 
@@ -281,8 +288,8 @@ pub record Valid (x : Lent) : Type 0 where
   pub isGetting : Each tasks (Getting (x .kernel))
   pub isReceiving : Each tasks (Receiving (x .kernel))
   pub isFirstSender : Each buffers (FirstSender (x .kernel))
-  pub isLayout : (b : ℕ) → 1 ≤ b → b ≤ buffers → Layout (x .kernel .buffers .maxmsz ! b) (x .kernel .buffers .used ! b) (region b (x .store))
-  pub isOutbox : Each tasks (Outbox x)
+  pub isLayout : Each buffers (RegionLayout (x .kernel) (x .store))
+  pub isOutbox : Each tasks (Outbox (x .kernel) (x .outbox))
 
 -- the same clauses as tests, in the same order
 unfoldable pub valid : Lent → Bool
@@ -308,5 +315,5 @@ valid x =
     && all (gettingTask k) (upTo tasks)
     && all (receivingTask k) (upTo tasks)
     && all (firstSender k) (upTo buffers)
-    && all (λ b. layout regionBytes (k .buffers .maxmsz ! b) (k .buffers .used ! b) (region b (x .store))) (upTo buffers)
-    && all (outboxPart x) (upTo tasks)
+    && all (regionLayout k (x .store)) (upTo buffers)
+    && all (outboxPart k (x .outbox)) (upTo tasks)

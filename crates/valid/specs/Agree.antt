@@ -17,7 +17,7 @@ use Rattle.model.specs.World.{Lent}
 use Rattle.model.specs.Message.{part, region}
 use Rattle.model.specs.Act.{firstFits}
 use Rattle.model.specs.Refusal.{aboveCeiling, freeBlock, poolSum, mutexAttributes, bufferAttributes, poolAttributes}
-use Rattle.model.specs.Valid.{From, Each, taskLists, mutexLists, bufferLists, poolLists, Lists, lists, Lengths, lengths, TaskRange, taskRange, MutexRange, mutexRange, BufferRange, bufferRange, PoolRange, poolRange, BlockFlag, blockFlag, Argument, argument, Wait, waitFields, awaitable, Arrivals, arrivals, Priorities, currentPriorities, Ceiling, ceiling, Locking, lockingTask, Getting, gettingTask, Receiving, receivingTask, FirstSender, firstSender, Outbox, outboxPart, Layout, layout, Valid, valid}
+use Rattle.model.specs.Valid.{From, Each, taskLists, mutexLists, bufferLists, poolLists, Lists, lists, Lengths, lengths, TaskRange, taskRange, MutexRange, mutexRange, BufferRange, bufferRange, PoolRange, poolRange, BlockFlag, blockFlag, Argument, argument, Wait, waitFields, awaitable, Arrivals, arrivals, Priorities, currentPriorities, Ceiling, ceiling, Locking, lockingTask, Getting, gettingTask, Receiving, receivingTask, FirstSender, firstSender, Outbox, outboxPart, RegionLayout, regionLayout, Valid, valid}
 use Rattle.message.proofs.Layouts.{layout-valid, valid-layout}
 use Rattle.valid.specs.Tests.{Agrees, and-agrees, or-agrees, implies-agrees, not-agrees, and3, and4, and5, eq-agrees, ne-agrees, le-agrees, lt-agrees, within-agrees, each-agrees, each-within, then-agrees, to-agrees, entries-agree, same-agrees, none-agrees, zero-agrees}
 
@@ -157,12 +157,12 @@ part-length : (t : ℕ) (outbox : List ℕ) → length outbox ≡ outboxBytes �
 unfolding part
 part-length t outbox n low high = rw (length-take, length-drop) (omega arith)
 
-pub outbox-agrees : (x : Lent) → length (x .outbox) ≡ outboxBytes → (t : ℕ) → 1 ≤ t → t ≤ tasks → Agrees (outboxPart x t) (Outbox x t)
+pub outbox-agrees : (k : Kernel) (outbox : List ℕ) → length outbox ≡ outboxBytes → (t : ℕ) → 1 ≤ t → t ≤ tasks → Agrees (outboxPart k outbox t) (Outbox k outbox t)
 unfolding outboxPart Outbox
-outbox-agrees x n t low high = rw e at (zero-agrees (drop (x .kernel .tasks .argument ! t) (part messageBytes t (x .outbox))))
+outbox-agrees k outbox n t low high = rw e at (zero-agrees (drop (k .tasks .argument ! t) (part messageBytes t outbox)))
   where
-    e : length (drop (x .kernel .tasks .argument ! t) (part messageBytes t (x .outbox))) ≡ messageBytes - x .kernel .tasks .argument ! t
-    e = rw (length-drop, part-length t (x .outbox) n low high)
+    e : length (drop (k .tasks .argument ! t) (part messageBytes t outbox)) ≡ messageBytes - k .tasks .argument ! t
+    e = rw (length-drop, part-length t outbox n low high)
 
 -- ---- the store
 
@@ -177,14 +177,14 @@ unfolding BufferRange
 used-in k b (inl h) = (let e = h .4 in omega arith, let e = h .3 in omega arith)
 used-in k b (inr h) = (let a = h .2 in let e = h .4 in omega arith, h .3 .1)
 
-pub layout-agrees : (x : Lent) → length (x .store) ≡ storeBytes → (b : ℕ) → 1 ≤ b → b ≤ buffers → BufferRange (x .kernel) b
-    → Agrees (layout regionBytes (x .kernel .buffers .maxmsz ! b) (x .kernel .buffers .used ! b) (region b (x .store))) (Layout (x .kernel .buffers .maxmsz ! b) (x .kernel .buffers .used ! b) (region b (x .store)))
-layout-agrees x n b low high r =
-    let u = used-in (x .kernel) b r in
-    let l = region-length b (x .store) n low high in
-    let short : x .kernel .buffers .maxmsz ! b < 256 = let m = u .1 in omega arith in (
-      layout-valid (x .kernel .buffers .maxmsz ! b) short (x .kernel .buffers .used ! b) (region b (x .store)) l (u .0),
-      valid-layout (x .kernel .buffers .maxmsz ! b) short (x .kernel .buffers .used ! b) (region b (x .store)) l,
+pub layout-agrees : (k : Kernel) (store : List ℕ) → length store ≡ storeBytes → (b : ℕ) → 1 ≤ b → b ≤ buffers → BufferRange k b
+    → Agrees (regionLayout k store b) (RegionLayout k store b)
+layout-agrees k store n b low high r =
+    let u = used-in k b r in
+    let l = region-length b store n low high in
+    let short : k .buffers .maxmsz ! b < 256 = let m = u .1 in omega arith in (
+      layout-valid (k .buffers .maxmsz ! b) short (k .buffers .used ! b) (region b store) l (u .0),
+      valid-layout (k .buffers .maxmsz ! b) short (k .buffers .used ! b) (region b store) l,
     )
 
 -- ---- all clauses
@@ -223,8 +223,8 @@ module _ (x : Lent) where
       let c17 = then-agrees _ _ c16 (λ q. each-agrees (gettingTask k) (Getting k) (getting-agrees k) tasks) in
       let c18 = then-agrees _ _ c17 (λ q. each-agrees (receivingTask k) (Receiving k) (receiving-agrees k) tasks) in
       let c19 = then-agrees _ _ c18 (λ q. each-agrees (firstSender k) (FirstSender k) (sender-agrees k) buffers) in
-      let c20 = then-agrees _ _ c19 (λ q. each-within (λ b. layout regionBytes (k .buffers .maxmsz ! b) (k .buffers .used ! b) (region b (x .store))) (λ b. Layout (k .buffers .maxmsz ! b) (k .buffers .used ! b) (region b (x .store))) buffers (λ b low high. layout-agrees x (q .0 .0 .0 .0 .0 .0 .0 .0 .0 .0 .0 .0 .0 .0 .0 .1 .2) b low high (q .0 .0 .0 .0 .0 .0 .0 .0 .0 .0 .0 .0 .1 b low high))) in
-      let c21 = then-agrees _ _ c20 (λ q. each-within (outboxPart x) (Outbox x) tasks (outbox-agrees x (q .0 .0 .0 .0 .0 .0 .0 .0 .0 .0 .0 .0 .0 .0 .0 .0 .1 .3))) in (
+      let c20 = then-agrees _ _ c19 (λ q. each-within (regionLayout k (x .store)) (RegionLayout k (x .store)) buffers (λ b low high. layout-agrees k (x .store) (q .0 .0 .0 .0 .0 .0 .0 .0 .0 .0 .0 .0 .0 .0 .0 .1 .2) b low high (q .0 .0 .0 .0 .0 .0 .0 .0 .0 .0 .0 .0 .1 b low high))) in
+      let c21 = then-agrees _ _ c20 (λ q. each-within (outboxPart k (x .outbox)) (Outbox k (x .outbox)) tasks (outbox-agrees k (x .outbox) (q .0 .0 .0 .0 .0 .0 .0 .0 .0 .0 .0 .0 .0 .0 .0 .0 .1 .3))) in (
         (λ e. let q = c21 .0 e in record { isTaskLists = q .0 .0 .0 .0 .0 .0 .0 .0 .0 .0 .0 .0 .0 .0 .0 .0 .0 .0 .0 .0 .0; isMutexLists = q .0 .0 .0 .0 .0 .0 .0 .0 .0 .0 .0 .0 .0 .0 .0 .0 .0 .0 .0 .0 .1; isBufferLists = q .0 .0 .0 .0 .0 .0 .0 .0 .0 .0 .0 .0 .0 .0 .0 .0 .0 .0 .0 .1; isPoolLists = q .0 .0 .0 .0 .0 .0 .0 .0 .0 .0 .0 .0 .0 .0 .0 .0 .0 .0 .1; isLengths = q .0 .0 .0 .0 .0 .0 .0 .0 .0 .0 .0 .0 .0 .0 .0 .0 .0 .1; isTaskRange = q .0 .0 .0 .0 .0 .0 .0 .0 .0 .0 .0 .0 .0 .0 .0 .0 .1; isMutexRange = q .0 .0 .0 .0 .0 .0 .0 .0 .0 .0 .0 .0 .0 .0 .0 .1; isBufferRange = q .0 .0 .0 .0 .0 .0 .0 .0 .0 .0 .0 .0 .0 .0 .1; isPoolRange = q .0 .0 .0 .0 .0 .0 .0 .0 .0 .0 .0 .0 .0 .1; isBlockFlag = q .0 .0 .0 .0 .0 .0 .0 .0 .0 .0 .0 .0 .1; isPoolSum = q .0 .0 .0 .0 .0 .0 .0 .0 .0 .0 .0 .1; isArgument = q .0 .0 .0 .0 .0 .0 .0 .0 .0 .0 .1; isWait = q .0 .0 .0 .0 .0 .0 .0 .0 .0 .1; isArrivals = q .0 .0 .0 .0 .0 .0 .0 .0 .1; isPriorities = q .0 .0 .0 .0 .0 .0 .0 .1; isCeiling = q .0 .0 .0 .0 .0 .0 .1; isLocking = q .0 .0 .0 .0 .0 .1; isGetting = q .0 .0 .0 .0 .1; isReceiving = q .0 .0 .0 .1; isFirstSender = q .0 .0 .1; isLayout = q .0 .1; isOutbox = q .1 }),
         (λ v. c21 .1 (((((((((((((((((((((v .isTaskLists, v .isMutexLists), v .isBufferLists), v .isPoolLists), v .isLengths), v .isTaskRange), v .isMutexRange), v .isBufferRange), v .isPoolRange), v .isBlockFlag), v .isPoolSum), v .isArgument), v .isWait), v .isArrivals), v .isPriorities), v .isCeiling), v .isLocking), v .isGetting), v .isReceiving), v .isFirstSender), v .isLayout), v .isOutbox)),
       )
