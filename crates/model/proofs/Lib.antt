@@ -1,3 +1,4 @@
 pub mod ListLaws
 pub mod NumberLaws
 pub mod Table
+pub mod Loops

@@ -11,7 +11,7 @@ use Rattle.model.specs.Lists.{all, upTo}
 use Rattle.model.specs.Valid.{ceiling}
 use Rattle.model.proofs.NumberLaws.{task-there, task-none}
 use Rattle.state.specs.Words.{kernel}
-use Rattle.valid.specs.Loops.{Asked, ask-more, ask-stop, ask-never, ask-done}
+use Rattle.model.proofs.Loops.{Asked, ask-more, ask-stop, ask-never, ask-done}
 use Rattle.valid.proofs.ceiling.ceilings.Statement.{statement}
 use Rattle.valid.proofs.ceiling.ceilings.Tie as tie
 

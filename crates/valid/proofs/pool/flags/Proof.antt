@@ -11,7 +11,7 @@ use Rattle.model.specs.Lists.{all, countFrom}
 use Rattle.model.specs.Valid.{blockFlag}
 use Rattle.model.proofs.NumberLaws.{pool-there, pool-none}
 use Rattle.state.specs.Words.{kernel}
-use Rattle.valid.specs.Loops.{Asked, ask-more, ask-stop, ask-never, ask-done}
+use Rattle.model.proofs.Loops.{Asked, ask-more, ask-stop, ask-never, ask-done}
 use Rattle.valid.proofs.pool.flags.Statement.{statement}
 use Rattle.valid.proofs.pool.flags.Tie as tie
 

@@ -10,7 +10,7 @@ use Rattle.model.specs.Sizes.{buffers}
 use Rattle.model.specs.Valid.{bufferRange}
 use Rattle.model.proofs.NumberLaws.{buffer-there, buffer-none}
 use Rattle.state.specs.Words.{kernel}
-use Rattle.valid.specs.Loops.{Asked, ask-more, ask-stop, ask-never, ask-done}
+use Rattle.model.proofs.Loops.{Asked, ask-more, ask-stop, ask-never, ask-done}
 use Rattle.valid.proofs.range.buffers_in_range.Statement.{statement}
 use Rattle.valid.proofs.range.buffers_in_range.Tie as tie
 

@@ -10,7 +10,7 @@ use Rattle.model.specs.Sizes.{tasks}
 use Rattle.model.specs.Valid.{lockingTask}
 use Rattle.model.proofs.NumberLaws.{task-there, task-none}
 use Rattle.state.specs.Words.{kernel}
-use Rattle.valid.specs.Loops.{Asked, ask-more, ask-stop, ask-never, ask-done}
+use Rattle.model.proofs.Loops.{Asked, ask-more, ask-stop, ask-never, ask-done}
 use Rattle.valid.proofs.wait.locking_tasks.Statement.{statement}
 use Rattle.valid.proofs.wait.locking_tasks.Tie as tie
 
