@@ -1,4 +1,5 @@
 pub mod ListLaws
+pub mod FlagLaws
 pub mod NumberLaws
 pub mod Table
 pub mod Loops
