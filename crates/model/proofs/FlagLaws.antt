@@ -50,6 +50,13 @@ all-and p q (x ∷ xs) = rw (all-and p q xs) (and-swap (p x) (q x) (all p xs) (a
 abbrev pub passes : List (ℕ → Bool) → ℕ → Bool
 passes ps n = all (λ p. p n) ps
 
+pub asked-together : (ps : List (ℕ → Bool)) (n : ℕ) → joinedFlags (map (λ p. p n) ps) ≡ passes ps n
+asked-together ps n = joined-every (map (λ p. p n) ps) ∙ go ps
+  where
+    go : (qs : List (ℕ → Bool)) → every (map (λ p. p n) qs) ≡ passes qs n
+    go [] = refl
+    go (q ∷ qs) = ap (λ (b : Bool). q n && b) (go qs)
+
 pub test-by-test : (ps : List (ℕ → Bool)) (ns : List ℕ) → all (passes ps) ns ≡ every (map (λ p. all p ns) ps)
 test-by-test [] ns = all-true ns
 test-by-test (p ∷ ps) ns = all-and p (passes ps) ns ∙ ap (λ (b : Bool). all p ns && b) (test-by-test ps ns)

@@ -1,14 +1,15 @@
 -- The check asks its clauses kind by kind, the definition in 01's order: the same. Assumes nothing.
 use Prim.Native.Nat.{ℕ, zero, suc}
 use mathlib.Core.Path.{_≡_, _∙_, refl, sym, ap}
-use mathlib.Core.Bool.{Bool, true, false, _&&_}
+use mathlib.Core.Bool.{Bool, true, false, _&&_, _||_}
 use mathlib.Core.List.{List, [], _∷_, _++_, map}
 use lib.ListN.{length}
 use lib.Dec.{eqb, leb}
-use borrow.Author.Tests.{eq-eqb}
+use native.Mathlib.Omega.{arith}
+use borrow.Author.Tests.{eq-eqb, le-leb, lt-leb}
 use Rattle.model.specs.Sizes.{tasks, mutexes, buffers, pools, blocks, poolBytes, storeBytes, outboxBytes}
-use Rattle.model.specs.Lists.{all, countFrom, upTo}
-use Rattle.model.specs.Kernel.{Kernel}
+use Rattle.model.specs.Lists.{_!_, all, countFrom, upTo, within}
+use Rattle.model.specs.Kernel.{Kernel, slot}
 use Rattle.model.specs.World.{Lent}
 use Rattle.model.specs.Refusal.{poolSum}
 use Rattle.model.specs.Valid.{lists, Lists, taskLists, mutexLists, bufferLists, poolLists, lengths, taskRange, mutexRange, bufferRange, poolRange, blockFlag, argument, waitFields, arrivals, currentPriorities, ceiling, lockingTask, gettingTask, receivingTask, firstSender, regionLayout, outboxPart, valid}
@@ -18,6 +19,10 @@ use Rattle.state.specs.Field as field
 use Rattle.valid.specs.Lent.{lent, isValid}
 use Rattle.valid.specs.Tests.{Agrees, and3, and4, eq-agrees}
 use Rattle.valid.specs.Agree.{lists-agree}
+
+all-same : (p q : ℕ → Bool) → ((n : ℕ) → p n ≡ q n) → (ns : List ℕ) → all p ns ≡ all q ns
+all-same p q h [] = refl
+all-same p q h (n ∷ ns) = rw (h n, all-same p q h ns)
 
 -- what is asked of every task, and of every buffer
 abbrev pub taskTests : Kernel → List (ℕ → Bool)
@@ -30,6 +35,21 @@ bufferTests k = bufferRange k ∷ firstSender k ∷ []
 
 abbrev pub blockFlags : Kernel → Bool
 blockFlags k = all (λ p. all (blockFlag k p) (countFrom 0 (suc blocks))) (countFrom 0 (suc pools))
+
+-- pool 0 is none and has no blocks, so a flag of it is 0
+module _ (k : Kernel) (h : Lists pools (poolLists k)) where
+  none-flag : (b : ℕ) → blockFlag k 0 b ≡ eqb (k .pools .taken ! slot 0 b) 0
+  unfolding blockFlag
+  none-flag b = rw (h .2 .2 .1) (go (eqb (k .pools .taken ! slot 0 b) 0) (eqb (k .pools .taken ! slot 0 b) 1) b)
+    where
+      go : (p q : Bool) (n : ℕ) → p || (q && within 1 0 n) ≡ p
+      go true q n = refl
+      go false false n = refl
+      go false true zero = refl
+      go false true (suc n) = rw (le-leb 1 (suc n) (omega arith), lt-leb (suc n) 0 (omega arith))
+
+  pub none-flags : all (blockFlag k 0) (countFrom 0 (suc blocks)) ≡ all (λ b. eqb (k .pools .taken ! slot 0 b) 0) (countFrom 0 (suc blocks))
+  none-flags = all-same (blockFlag k 0) (λ b. eqb (k .pools .taken ! slot 0 b) 0) none-flag (countFrom 0 (suc blocks))
 
 -- entry 0 of every list
 abbrev pub noneZero : Kernel → Bool

@@ -6,3 +6,4 @@ pub mod Flags
 pub mod Waiters
 pub mod Sums
 pub mod Arrivals
+pub mod Currents
