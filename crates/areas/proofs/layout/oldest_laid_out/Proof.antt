@@ -1,0 +1,20 @@
+-- `oldest_laid_out` meets its contract: the four tests are the definition's. Assumes nothing.
+use borrow.Author.Needs.{needs}
+use Rattle.areas.specs.Messages.{oldestLaidOut}
+use Rattle.areas.proofs.layout.oldest_laid_out.Statement.{statement}
+use Rattle.areas.proofs.layout.oldest_laid_out.Tie as tie
+
+cast-behind : tie.Need-cast-behind
+cast-behind c = search needs
+
+add-behind : tie.Need-add-behind
+add-behind c = search needs
+
+returns : tie.Need-returns
+unfolding oldestLaidOut
+returns c = cc
+
+pub oldest-laid-out-spec : {M : Type 1} → statement M
+oldest-laid-out-spec =
+    tie.close
+    (tie.spec (λ c κs. search needs) (λ c κs. search needs) (λ c κs. search needs) cast-behind add-behind (λ c κs. search needs) (λ c κs. search needs) returns)
