@@ -5,13 +5,11 @@ use native.Mathlib.Omega.{arith}
 use mathlib.Core.Path.{_≡_, _∙_, refl, sym, ap}
 use mathlib.Core.Bool.{Bool, true, false, _&&_}
 use mathlib.Core.List.{List}
-use lib.ListN.{length, take, drop, drop-of-length-le, length-take}
-use lib.Seq.{take-all, drop-cons}
+use lib.ListN.{length, drop, drop-of-length-le}
+use lib.Seq.{drop-cons}
 use lib.Dec.{eqb}
 use borrow.Author.Tests.{ne-eqb}
-use Rattle.model.specs.Sizes.{messageBytes}
 use Rattle.model.specs.Lists.{_!_, allZero}
-use Rattle.model.specs.Message.{part, outboxMessage}
 
 -- whether the first i bytes are zero is known, and the others decide
 pub record ZeroSoFar (bytes : List ℕ) (known : Bool) (i : ℕ) : Type 0 where
@@ -43,8 +41,3 @@ module _ (bytes : List ℕ) where
 
     pub zero-done : length bytes ≤ i → known ≡ allZero bytes
     zero-done h = sym (z .decides ∙ ap (λ (l : List ℕ). known && allZero l) (drop-of-length-le bytes {i = i} h) ∙ and-true known)
-
--- a message of all bytes of a task's part of the outbox is the part
-pub outbox-whole : (t : ℕ) (outbox : List ℕ) → outboxMessage t messageBytes outbox ≡ part messageBytes t outbox
-unfolding outboxMessage part
-outbox-whole t outbox = take-all messageBytes _ (rw length-take (omega arith))

@@ -19,6 +19,12 @@ oldestLaidOut maxmsz used r =
     let l = oldestLength r in
     within 1 maxmsz l && leb (cost l) used && allZero (drop (4 + l) (take (cost l) r))
 
+-- the same test as the code makes it: of the length, of the cost, and of the bytes between the two
+pub oldest-tests : (maxmsz used : ℕ) (r : List ℕ) {l n : ℕ} {message pad : List ℕ} {zero : Bool} → l ≡ oldestLength r → n ≡ cost l → message ≡ take n r
+    → pad ≡ drop (4 + l) message → zero ≡ allZero pad → leb 1 l && leb l maxmsz && leb n used && zero ≡ oldestLaidOut maxmsz used r
+unfolding oldestLaidOut
+oldest-tests maxmsz used r p q s t u = rw (u, t, s, q, p)
+
 pub oldest-fits : (maxmsz used : ℕ) (r : List ℕ) → oldestLaidOut maxmsz used r ≡ true → cost (oldestLength r) ≤ used
 unfolding oldestLaidOut
 oldest-fits maxmsz used r e =

@@ -1,12 +1,7 @@
 -- `part_laid_out` meets its contract: a message of all bytes of a part is the part. Assumes nothing.
-use Prim.Native.Nat.{ℕ}
-use mathlib.Core.Path.{_≡_}
-use mathlib.Core.List.{List}
 use borrow.Author.Needs.{needs}
-use Rattle.model.specs.Sizes.{messageBytes}
-use Rattle.model.specs.Message.{part, outboxMessage}
-use Rattle.model.specs.Valid.{outboxPart}
-use Rattle.areas.specs.Bytes.{outbox-whole}
+use Rattle.state.specs.Words.{kernel}
+use Rattle.areas.specs.Outbox.{part-tests}
 use Rattle.areas.proofs.outbox.part_laid_out.Statement.{statement}
 use Rattle.areas.proofs.outbox.part_laid_out.Tie as tie
 
@@ -14,12 +9,11 @@ cast-behind : tie.Need-cast-behind
 cast-behind c = search needs
 
 returns : tie.Need-returns
-unfolding outboxPart
 returns c =
-    let a = c .before .before .before .before .before .before .args in
-    let p : List ℕ = part messageBytes (a .t .0) (a .outbox .now) in
-    let whole : outboxMessage (a .t .0) messageBytes (a .outbox .now) ≡ p = outbox-whole (a .t .0) (a .outbox .now) in
-    cc
+    let b = c .before in
+    let p = b .before in
+    let a = p .before .before .before .before .args in
+    part-tests (kernel (a .state .now)) (a .outbox .now) (a .t .0) (p .before .argument .ensures) (p .outbox-message .ensures) (b .behind .ensures) (c .all-zero .ensures)
 
 pub part-laid-out-spec : {M : Type 1} → statement M
 part-laid-out-spec =
