@@ -1,4 +1,4 @@
-// 01, "Send": "A waiting sender's bytes lie at the start of its part of the bay. All other bytes are zero."
+// 01, "Send": "A waiting sender's bytes lie at the start of its part of the bay. All other bytes are zero." The bay is the outbox here.
 use super::bytes::all_zero;
 use super::bytes::behind;
 use message::outbox::outbox_message;
