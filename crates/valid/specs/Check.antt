@@ -1,12 +1,12 @@
 -- The check asks its clauses kind by kind, the definition in 01's order: the same. Assumes nothing.
-use Prim.Native.Nat.{ℕ, zero, suc}
+use Prim.Native.Nat.{ℕ, zero, suc, _*_}
 use mathlib.Core.Path.{_≡_, _∙_, refl, sym, ap}
 use mathlib.Core.Bool.{Bool, true, false, _&&_, _||_}
 use mathlib.Core.List.{List, [], _∷_, _++_, map}
 use lib.ListN.{length}
 use lib.Dec.{eqb, leb}
 use native.Mathlib.Omega.{arith}
-use borrow.Author.Tests.{eq-eqb, le-leb, lt-leb}
+use borrow.Author.Tests.{eqb-true, eq-eqb, le-leb, lt-leb}
 use Rattle.model.specs.Sizes.{tasks, mutexes, buffers, pools, blocks, poolBytes, storeBytes, outboxBytes}
 use Rattle.model.specs.Lists.{_!_, all, countFrom, upTo, within}
 use Rattle.model.specs.Kernel.{Kernel, slot}
@@ -129,3 +129,48 @@ module _ (x : Lent) where
   kind-by-kind =
       joined-every asDefined ∙ reordered ∙ grouped (lengths x) ofLists ofTasks (all (mutexRange k) (upTo mutexes)) ofBuffers ofOthers ∙ by-loop
       ∙ sym (joined-every (lengths x ∷ noneZero k ∷ clauses x))
+
+-- ---- whatever is lent
+
+abbrev pub rightLengths : List ℕ → List ℕ → List ℕ → Bool
+rightLengths words store outbox = eqb (length words) wordCount && eqb (length store) storeBytes && eqb (length outbox) outboxBytes
+
+-- entry 0 of every list, as a statement
+pub none-lists : (k : Kernel) → noneZero k ≡ true → Lists tasks (taskLists k) × Lists mutexes (mutexLists k) × Lists buffers (bufferLists k) × Lists pools (poolLists k)
+none-lists k e =
+    and4 _ _ _ _ (lists-agree tasks (taskLists k)) (lists-agree mutexes (mutexLists k)) (lists-agree buffers (bufferLists k)) (lists-agree pools (poolLists k)) .0 e
+
+module _ (w s o : List ℕ) where
+  pub right-lengths : rightLengths w s o ≡ true → (length w ≡ wordCount) × (length s ≡ storeBytes) × (length o ≡ outboxBytes)
+  right-lengths e = and3 _ _ _ (eq-agrees (length w) wordCount) (eq-agrees (length s) storeBytes) (eq-agrees (length o) outboxBytes) .0 e
+
+  -- the words are a state's, so the areas decide
+  by-areas : length w ≡ wordCount → lengths (lent w s o) ≡ eqb (length s) storeBytes && eqb (length o) outboxBytes
+  unfolding fields sizes
+  by-areas h =
+      rw (
+        eq-eqb (length (kernel w .arrivals)) tasks (size-of (kernel w) (sized w h) field.arrivals),
+        eq-eqb (length (kernel w .pools .taken)) (suc pools * suc blocks) (size-of (kernel w) (sized w h) field.taken),
+      )
+
+  pub wrong-lengths : rightLengths w s o ≡ false → false ≡ isValid w s o
+  unfolding isValid
+  wrong-lengths e = go (eqb (length w) wordCount) refl e
+    where
+      go : (b : Bool) → eqb (length w) wordCount ≡ b → b && eqb (length s) storeBytes && eqb (length o) outboxBytes ≡ false → false ≡ b && valid (lent w s o)
+      go true q f = sym (kind-by-kind (lent w s o) ∙ rw (by-areas (eqb-true (length w) wordCount q) ∙ f))
+      go false q f = refl
+
+  module _ (right : rightLengths w s o ≡ true) where
+    asked : isValid w s o ≡ joinedFlags (noneZero (kernel w) ∷ clauses (lent w s o))
+    unfolding isValid
+    asked =
+        let r = right-lengths right in
+        rw (eq-eqb (length w) wordCount (r .0))
+        (kind-by-kind (lent w s o) ∙ rw (by-areas (r .0), eq-eqb (length s) storeBytes (r .1), eq-eqb (length o) outboxBytes (r .2)))
+
+    pub not-zero : noneZero (kernel w) ≡ false → false ≡ isValid w s o
+    not-zero e = sym (asked ∙ rw e)
+
+    pub by-clauses : noneZero (kernel w) ≡ true → joinedFlags (clauses (lent w s o)) ≡ isValid w s o
+    by-clauses e = sym (asked ∙ rw e)
