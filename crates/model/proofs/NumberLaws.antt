@@ -4,22 +4,30 @@ use native.Mathlib.Decide.{decLe, ℕ-discrete}
 use native.Mathlib.Omega.{arith}
 use mathlib.Core.Path.{_≡_, _∙_, refl, sym, ap}
 use mathlib.Core.Logic.{_≢_, _⊎_, inl, inr}
-use mathlib.Core.Bool.{Bool, true, false, cond}
+use mathlib.Core.Bool.{Bool, true, false, _||_, not, cond}
 use mathlib.Core.List.{List, [], _∷_}
 use lib.ListN.{length, drop, List·getD-eq-default}
 use lib.Dec.{eqb, ltb}
-use borrow.Author.Tests.{eq-eqb, ne-eqb, lt-ltb, le-ltb}
+use lib.IntN.{ℤ, pos, negsuc}
+use borrow.Author.Tests.{eqb-true, eq-eqb, eqb-false, ne-eqb, lt-ltb, le-ltb, not-true, not-false}
 use Rattle.model.specs.Sizes.{tasks, mutexes, buffers, pools}
 use Rattle.model.specs.Lists.{_!_}
 use Rattle.model.specs.Kernel.{numbered}
-use Rattle.model.specs.Number.{wordNumber, maybeTask, maybeMutex, maybeBuffer, maybePool}
+use Rattle.model.specs.Code.{number}
+use Rattle.model.specs.Number.{wordNumber, fieldNumber, maybeTask, taskWord, maybeMutex, mutexWord, maybeBuffer, bufferWord, maybePool, poolWord}
+use Rattle.model.specs.Refusal.{outside}
+use Rattle.model.proofs.ListLaws.{or-right}
 use Rattle.model.specs.declared.number.TaskNumber.{TaskNumber}
+use Rattle.model.specs.declared.number.MaybeTask.{MaybeTask}
 use Rattle.model.specs.declared.number.MaybeTask as mTask
 use Rattle.model.specs.declared.number.MutexNumber.{MutexNumber}
+use Rattle.model.specs.declared.number.MaybeMutex.{MaybeMutex}
 use Rattle.model.specs.declared.number.MaybeMutex as mMutex
 use Rattle.model.specs.declared.number.BufferNumber.{BufferNumber}
+use Rattle.model.specs.declared.number.MaybeBuffer.{MaybeBuffer}
 use Rattle.model.specs.declared.number.MaybeBuffer as mBuffer
 use Rattle.model.specs.declared.number.PoolNumber.{PoolNumber}
+use Rattle.model.specs.declared.number.MaybePool.{MaybePool}
 use Rattle.model.specs.declared.number.MaybePool as mPool
 
 -- a word is a number up to the last, or it names nothing
@@ -54,105 +62,221 @@ pub numbered-none : (last : ℕ) (xs : List ℕ) (u : ℕ) → length xs ≡ suc
 numbered-none last xs u n (inl e) = rw e
 numbered-none last xs u n (inr h) = numbered-at xs u (omega arith) ∙ List·getD-eq-default xs 0 {n = u} (omega arith)
 
+-- a field that is in range is the number of something; one that is not is refused by order 5
+pub field-inside : (last : ℕ) (n : ℤ) → fieldNumber n last ≢ 0 → (outside (pos 1) (pos last) n ≡ false) × (number n ≡ fieldNumber n last)
+unfolding fieldNumber
+field-inside last (negsuc n) h = absurd (h refl)
+field-inside last (pos n) h = go (word-cases last n)
+  where
+    go : ((wordNumber n last ≡ n) × (1 ≤ n) × (n ≤ last)) ⊎ ((wordNumber n last ≡ 0) × NamesNone last n) → (ltb n 1 || ltb last n ≡ false) × (n ≡ wordNumber n last)
+    go (inl q) = (rw (le-ltb n 1 (q .1), le-ltb last n (q .2)), sym (q .0))
+    go (inr q) = absurd (h (q .0))
+
+pub field-outside : (last : ℕ) (n : ℤ) → fieldNumber n last ≡ 0 → outside (pos 1) (pos last) n ≡ true
+unfolding fieldNumber
+field-outside last (negsuc n) e = refl
+field-outside last (pos n) e = go (word-cases last n)
+  where
+    beyond : NamesNone last n → ltb n 1 || ltb last n ≡ true
+    beyond (inl z) = rw (lt-ltb n 1 (omega arith))
+    beyond (inr l) = or-right (ltb n 1) (ltb last n) (lt-ltb last n l)
+
+    go : ((wordNumber n last ≡ n) × (1 ≤ n) × (n ≤ last)) ⊎ ((wordNumber n last ≡ 0) × NamesNone last n) → ltb n 1 || ltb last n ≡ true
+    go (inl q) = absurd (let z = q .0 in let o = q .1 in omega arith)
+    go (inr q) = beyond (q .1)
+
+-- ---- the enums of numbers, all of one make: nothing, or something with its number
+
+record Kind (A : Type 0) : Type 0 where
+  none : A
+  some : ℕ → A
+  there : A → Bool
+  word : A → ℕ
+  none-there : there none ≡ false
+  some-there : (n : ℕ) → there (some n) ≡ true
+  none-word : word none ≡ 0
+  some-word : (n : ℕ) → word (some n) ≡ n
+
+module _ {A : Type 0} (kind : Kind A) where
+  abbrev maybe : ℕ → A
+  maybe n = cond (eqb n 0) (kind .none) (kind .some n)
+
+  tells : (n : ℕ) → kind .there (maybe n) ≡ not (eqb n 0)
+  tells n = go (eqb n 0)
+    where
+      go : (b : Bool) → kind .there (cond b (kind .none) (kind .some n)) ≡ not b
+      go true = kind .none-there
+      go false = kind .some-there n
+
+  says : (n : ℕ) → kind .word (maybe n) ≡ n
+  says n = go (eqb n 0) refl
+    where
+      go : (b : Bool) → eqb n 0 ≡ b → kind .word (cond b (kind .none) (kind .some n)) ≡ n
+      go true e = kind .none-word ∙ sym (eqb-true n 0 e)
+      go false e = kind .some-word n
+
+  -- what the number was that it was made from
+  is-some : (n : ℕ) (x : A) → maybe n ≡ x → kind .there x ≡ true → (kind .word x ≡ n) × (n ≢ 0)
+  is-some n x e h = (ap (kind .word) (sym e) ∙ says n, eqb-false n 0 (not-true _ (sym (tells n) ∙ ap (kind .there) e ∙ h)))
+
+  is-none : (n : ℕ) (x : A) → maybe n ≡ x → kind .there x ≡ false → n ≡ 0
+  is-none n x e h = eqb-true n 0 (not-false _ (sym (tells n) ∙ ap (kind .there) e ∙ h))
+
+  -- the same of a number made from a word
+  word-some : (last u : ℕ) (x : A) → maybe (wordNumber u last) ≡ x → kind .there x ≡ true → Names last u (kind .word x)
+  word-some last u x e h = go (is-some (wordNumber u last) x e h) (word-cases last u)
+    where
+      go : (kind .word x ≡ wordNumber u last) × (wordNumber u last ≢ 0) → ((wordNumber u last ≡ u) × (1 ≤ u) × (u ≤ last)) ⊎ ((wordNumber u last ≡ 0) × NamesNone last u) → Names last u (kind .word x)
+      go q (inl w) = (q .0 ∙ w .0, w .1, w .2)
+      go q (inr w) = absurd (q .1 (w .0))
+
+  word-none : (last u : ℕ) (x : A) → maybe (wordNumber u last) ≡ x → kind .there x ≡ false → NamesNone last u
+  word-none last u x e h = go (is-none (wordNumber u last) x e h) (word-cases last u)
+    where
+      go : wordNumber u last ≡ 0 → ((wordNumber u last ≡ u) × (1 ≤ u) × (u ≤ last)) ⊎ ((wordNumber u last ≡ 0) × NamesNone last u) → NamesNone last u
+      go q (inl w) = inl (sym (w .0) ∙ q)
+      go q (inr w) = w .1
+
+-- ---- tasks
+
+abbrev taskThere : MaybeTask → Bool
+taskThere mTask.the-variants.Nothing = false
+taskThere (mTask.the-variants.Task n) = true
+
+abbrev taskKind : Kind MaybeTask
+taskKind =
+    record {
+      none = mTask.the-variants.Nothing;
+      some = λ n. mTask.the-variants.Task (record { 0 = n });
+      there = taskThere;
+      word = taskWord;
+      none-there = refl;
+      some-there = λ n. refl;
+      none-word = refl;
+      some-word = λ n. refl;
+    }
+
+pub task-is : (n : ℕ) (x : TaskNumber) → maybeTask n ≡ mTask.the-variants.Task x → (x .0 ≡ n) × (n ≢ 0)
+unfolding maybeTask
+task-is n x e = is-some taskKind n (mTask.the-variants.Task x) e refl
+
+pub task-is-none : (n : ℕ) → maybeTask n ≡ mTask.the-variants.Nothing → n ≡ 0
+unfolding maybeTask
+task-is-none n e = is-none taskKind n mTask.the-variants.Nothing e refl
+
+pub task-there : (u : ℕ) (x : TaskNumber) → maybeTask (wordNumber u tasks) ≡ mTask.the-variants.Task x → Names tasks u (x .0)
+unfolding maybeTask
+task-there u x e = word-some taskKind tasks u (mTask.the-variants.Task x) e refl
+
+pub task-none : (u : ℕ) → maybeTask (wordNumber u tasks) ≡ mTask.the-variants.Nothing → NamesNone tasks u
+unfolding maybeTask
+task-none u e = word-none taskKind tasks u mTask.the-variants.Nothing e refl
+
+-- ---- mutexes
+
+abbrev mutexThere : MaybeMutex → Bool
+mutexThere mMutex.the-variants.Nothing = false
+mutexThere (mMutex.the-variants.Mutex n) = true
+
+abbrev mutexKind : Kind MaybeMutex
+mutexKind =
+    record {
+      none = mMutex.the-variants.Nothing;
+      some = λ n. mMutex.the-variants.Mutex (record { 0 = n });
+      there = mutexThere;
+      word = mutexWord;
+      none-there = refl;
+      some-there = λ n. refl;
+      none-word = refl;
+      some-word = λ n. refl;
+    }
+
+pub mutex-is : (n : ℕ) (x : MutexNumber) → maybeMutex n ≡ mMutex.the-variants.Mutex x → (x .0 ≡ n) × (n ≢ 0)
+unfolding maybeMutex
+mutex-is n x e = is-some mutexKind n (mMutex.the-variants.Mutex x) e refl
+
+pub mutex-is-none : (n : ℕ) → maybeMutex n ≡ mMutex.the-variants.Nothing → n ≡ 0
+unfolding maybeMutex
+mutex-is-none n e = is-none mutexKind n mMutex.the-variants.Nothing e refl
+
+pub mutex-there : (u : ℕ) (x : MutexNumber) → maybeMutex (wordNumber u mutexes) ≡ mMutex.the-variants.Mutex x → Names mutexes u (x .0)
+unfolding maybeMutex
+mutex-there u x e = word-some mutexKind mutexes u (mMutex.the-variants.Mutex x) e refl
+
+pub mutex-none : (u : ℕ) → maybeMutex (wordNumber u mutexes) ≡ mMutex.the-variants.Nothing → NamesNone mutexes u
+unfolding maybeMutex
+mutex-none u e = word-none mutexKind mutexes u mMutex.the-variants.Nothing e refl
+
+-- ---- buffers
+
+abbrev bufferThere : MaybeBuffer → Bool
+bufferThere mBuffer.the-variants.Nothing = false
+bufferThere (mBuffer.the-variants.Buffer n) = true
+
+abbrev bufferKind : Kind MaybeBuffer
+bufferKind =
+    record {
+      none = mBuffer.the-variants.Nothing;
+      some = λ n. mBuffer.the-variants.Buffer (record { 0 = n });
+      there = bufferThere;
+      word = bufferWord;
+      none-there = refl;
+      some-there = λ n. refl;
+      none-word = refl;
+      some-word = λ n. refl;
+    }
+
+pub buffer-is : (n : ℕ) (x : BufferNumber) → maybeBuffer n ≡ mBuffer.the-variants.Buffer x → (x .0 ≡ n) × (n ≢ 0)
+unfolding maybeBuffer
+buffer-is n x e = is-some bufferKind n (mBuffer.the-variants.Buffer x) e refl
+
+pub buffer-is-none : (n : ℕ) → maybeBuffer n ≡ mBuffer.the-variants.Nothing → n ≡ 0
+unfolding maybeBuffer
+buffer-is-none n e = is-none bufferKind n mBuffer.the-variants.Nothing e refl
+
+pub buffer-there : (u : ℕ) (x : BufferNumber) → maybeBuffer (wordNumber u buffers) ≡ mBuffer.the-variants.Buffer x → Names buffers u (x .0)
+unfolding maybeBuffer
+buffer-there u x e = word-some bufferKind buffers u (mBuffer.the-variants.Buffer x) e refl
+
+pub buffer-none : (u : ℕ) → maybeBuffer (wordNumber u buffers) ≡ mBuffer.the-variants.Nothing → NamesNone buffers u
+unfolding maybeBuffer
+buffer-none u e = word-none bufferKind buffers u mBuffer.the-variants.Nothing e refl
+
+-- ---- pools
+
+abbrev poolThere : MaybePool → Bool
+poolThere mPool.the-variants.Nothing = false
+poolThere (mPool.the-variants.Pool n) = true
+
+abbrev poolKind : Kind MaybePool
+poolKind =
+    record {
+      none = mPool.the-variants.Nothing;
+      some = λ n. mPool.the-variants.Pool (record { 0 = n });
+      there = poolThere;
+      word = poolWord;
+      none-there = refl;
+      some-there = λ n. refl;
+      none-word = refl;
+      some-word = λ n. refl;
+    }
+
+pub pool-is : (n : ℕ) (x : PoolNumber) → maybePool n ≡ mPool.the-variants.Pool x → (x .0 ≡ n) × (n ≢ 0)
+unfolding maybePool
+pool-is n x e = is-some poolKind n (mPool.the-variants.Pool x) e refl
+
+pub pool-is-none : (n : ℕ) → maybePool n ≡ mPool.the-variants.Nothing → n ≡ 0
+unfolding maybePool
+pool-is-none n e = is-none poolKind n mPool.the-variants.Nothing e refl
+
+pub pool-there : (u : ℕ) (x : PoolNumber) → maybePool (wordNumber u pools) ≡ mPool.the-variants.Pool x → Names pools u (x .0)
+unfolding maybePool
+pool-there u x e = word-some poolKind pools u (mPool.the-variants.Pool x) e refl
+
+pub pool-none : (u : ℕ) → maybePool (wordNumber u pools) ≡ mPool.the-variants.Nothing → NamesNone pools u
+unfolding maybePool
+pool-none u e = word-none poolKind pools u mPool.the-variants.Nothing e refl
+
 pub task-zero : (n : ℕ) → n ≡ 0 → maybeTask n ≡ mTask.the-variants.Nothing
 unfolding maybeTask
 task-zero n e = rw (eq-eqb n 0 e)
-
-task-some : (n : ℕ) → n ≢ 0 → maybeTask n ≡ mTask.the-variants.Task (record { 0 = n })
-unfolding maybeTask
-task-some n h = rw (ne-eqb n 0 h)
-
--- the number that stands for each case
-pub task-is : (n : ℕ) (t : TaskNumber) → maybeTask n ≡ mTask.the-variants.Task t → (t .0 ≡ n) × (n ≢ 0)
-task-is n t e = go (ℕ-discrete n 0)
-  where
-    go : Dec (n ≡ 0) → (t .0 ≡ n) × (n ≢ 0)
-    go (yes z) = let f = sym (task-zero n z) ∙ e in let o : _≡_ {A = ℕ} 0 1 = cc in absurd (omega arith)
-    go (no h) = let f = sym (task-some n h) ∙ e in ((cc), h)
-
-pub task-is-none : (n : ℕ) → maybeTask n ≡ mTask.the-variants.Nothing → n ≡ 0
-task-is-none n e = go (ℕ-discrete n 0)
-  where
-    go : Dec (n ≡ 0) → n ≡ 0
-    go (yes z) = z
-    go (no h) = let f = sym (task-some n h) ∙ e in let o : _≡_ {A = ℕ} 0 1 = cc in absurd (omega arith)
-
-pub task-there : (u : ℕ) (n : TaskNumber) → maybeTask (wordNumber u tasks) ≡ mTask.the-variants.Task n → Names tasks u (n .0)
-task-there u n e = go (word-cases tasks u)
-  where
-    go : ((wordNumber u tasks ≡ u) × (1 ≤ u) × (u ≤ tasks)) ⊎ ((wordNumber u tasks ≡ 0) × NamesNone tasks u) → Names tasks u (n .0)
-    go (inl h) = let f = sym (task-some u (omega arith)) ∙ ap maybeTask (sym (h .0)) ∙ e in ((cc), h .1, h .2)
-    go (inr h) = let f = sym (task-zero _ (h .0)) ∙ e in let z : _≡_ {A = ℕ} 0 1 = cc in absurd (omega arith)
-
-pub task-none : (u : ℕ) → maybeTask (wordNumber u tasks) ≡ mTask.the-variants.Nothing → NamesNone tasks u
-task-none u e = go (word-cases tasks u)
-  where
-    go : ((wordNumber u tasks ≡ u) × (1 ≤ u) × (u ≤ tasks)) ⊎ ((wordNumber u tasks ≡ 0) × NamesNone tasks u) → NamesNone tasks u
-    go (inl h) = let f = sym (task-some u (omega arith)) ∙ ap maybeTask (sym (h .0)) ∙ e in let z : _≡_ {A = ℕ} 0 1 = cc in absurd (omega arith)
-    go (inr h) = h .1
-
-mutex-zero : (n : ℕ) → n ≡ 0 → maybeMutex n ≡ mMutex.the-variants.Nothing
-unfolding maybeMutex
-mutex-zero n e = rw (eq-eqb n 0 e)
-
-mutex-some : (n : ℕ) → n ≢ 0 → maybeMutex n ≡ mMutex.the-variants.Mutex (record { 0 = n })
-unfolding maybeMutex
-mutex-some n h = rw (ne-eqb n 0 h)
-
-pub mutex-there : (u : ℕ) (n : MutexNumber) → maybeMutex (wordNumber u mutexes) ≡ mMutex.the-variants.Mutex n → Names mutexes u (n .0)
-mutex-there u n e = go (word-cases mutexes u)
-  where
-    go : ((wordNumber u mutexes ≡ u) × (1 ≤ u) × (u ≤ mutexes)) ⊎ ((wordNumber u mutexes ≡ 0) × NamesNone mutexes u) → Names mutexes u (n .0)
-    go (inl h) = let f = sym (mutex-some u (omega arith)) ∙ ap maybeMutex (sym (h .0)) ∙ e in ((cc), h .1, h .2)
-    go (inr h) = let f = sym (mutex-zero _ (h .0)) ∙ e in let z : _≡_ {A = ℕ} 0 1 = cc in absurd (omega arith)
-
-pub mutex-none : (u : ℕ) → maybeMutex (wordNumber u mutexes) ≡ mMutex.the-variants.Nothing → NamesNone mutexes u
-mutex-none u e = go (word-cases mutexes u)
-  where
-    go : ((wordNumber u mutexes ≡ u) × (1 ≤ u) × (u ≤ mutexes)) ⊎ ((wordNumber u mutexes ≡ 0) × NamesNone mutexes u) → NamesNone mutexes u
-    go (inl h) = let f = sym (mutex-some u (omega arith)) ∙ ap maybeMutex (sym (h .0)) ∙ e in let z : _≡_ {A = ℕ} 0 1 = cc in absurd (omega arith)
-    go (inr h) = h .1
-
-buffer-zero : (n : ℕ) → n ≡ 0 → maybeBuffer n ≡ mBuffer.the-variants.Nothing
-unfolding maybeBuffer
-buffer-zero n e = rw (eq-eqb n 0 e)
-
-buffer-some : (n : ℕ) → n ≢ 0 → maybeBuffer n ≡ mBuffer.the-variants.Buffer (record { 0 = n })
-unfolding maybeBuffer
-buffer-some n h = rw (ne-eqb n 0 h)
-
-pub buffer-there : (u : ℕ) (n : BufferNumber) → maybeBuffer (wordNumber u buffers) ≡ mBuffer.the-variants.Buffer n → Names buffers u (n .0)
-buffer-there u n e = go (word-cases buffers u)
-  where
-    go : ((wordNumber u buffers ≡ u) × (1 ≤ u) × (u ≤ buffers)) ⊎ ((wordNumber u buffers ≡ 0) × NamesNone buffers u) → Names buffers u (n .0)
-    go (inl h) = let f = sym (buffer-some u (omega arith)) ∙ ap maybeBuffer (sym (h .0)) ∙ e in ((cc), h .1, h .2)
-    go (inr h) = let f = sym (buffer-zero _ (h .0)) ∙ e in let z : _≡_ {A = ℕ} 0 1 = cc in absurd (omega arith)
-
-pub buffer-none : (u : ℕ) → maybeBuffer (wordNumber u buffers) ≡ mBuffer.the-variants.Nothing → NamesNone buffers u
-buffer-none u e = go (word-cases buffers u)
-  where
-    go : ((wordNumber u buffers ≡ u) × (1 ≤ u) × (u ≤ buffers)) ⊎ ((wordNumber u buffers ≡ 0) × NamesNone buffers u) → NamesNone buffers u
-    go (inl h) = let f = sym (buffer-some u (omega arith)) ∙ ap maybeBuffer (sym (h .0)) ∙ e in let z : _≡_ {A = ℕ} 0 1 = cc in absurd (omega arith)
-    go (inr h) = h .1
-
-pool-zero : (n : ℕ) → n ≡ 0 → maybePool n ≡ mPool.the-variants.Nothing
-unfolding maybePool
-pool-zero n e = rw (eq-eqb n 0 e)
-
-pool-some : (n : ℕ) → n ≢ 0 → maybePool n ≡ mPool.the-variants.Pool (record { 0 = n })
-unfolding maybePool
-pool-some n h = rw (ne-eqb n 0 h)
-
-pub pool-there : (u : ℕ) (n : PoolNumber) → maybePool (wordNumber u pools) ≡ mPool.the-variants.Pool n → Names pools u (n .0)
-pool-there u n e = go (word-cases pools u)
-  where
-    go : ((wordNumber u pools ≡ u) × (1 ≤ u) × (u ≤ pools)) ⊎ ((wordNumber u pools ≡ 0) × NamesNone pools u) → Names pools u (n .0)
-    go (inl h) = let f = sym (pool-some u (omega arith)) ∙ ap maybePool (sym (h .0)) ∙ e in ((cc), h .1, h .2)
-    go (inr h) = let f = sym (pool-zero _ (h .0)) ∙ e in let z : _≡_ {A = ℕ} 0 1 = cc in absurd (omega arith)
-
-pub pool-none : (u : ℕ) → maybePool (wordNumber u pools) ≡ mPool.the-variants.Nothing → NamesNone pools u
-pool-none u e = go (word-cases pools u)
-  where
-    go : ((wordNumber u pools ≡ u) × (1 ≤ u) × (u ≤ pools)) ⊎ ((wordNumber u pools ≡ 0) × NamesNone pools u) → NamesNone pools u
-    go (inl h) = let f = sym (pool-some u (omega arith)) ∙ ap maybePool (sym (h .0)) ∙ e in let z : _≡_ {A = ℕ} 0 1 = cc in absurd (omega arith)
-    go (inr h) = h .1

@@ -7,3 +7,4 @@ pub mod Waiters
 pub mod Sums
 pub mod Arrivals
 pub mod Currents
+pub mod Shown

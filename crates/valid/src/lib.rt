@@ -3,6 +3,7 @@ pub mod arrival;
 pub mod ceiling;
 pub mod current;
 pub mod entry;
+pub mod next;
 pub mod object;
 pub mod pool;
 pub mod range;
