@@ -112,7 +112,7 @@ above-falls cs v p n a b h =
 -- ---- the kernel that the words hold
 
 -- a number of a task, or none
-within-true : (n : ℕ) → within 1 tasks n ≡ true → (1 ≤ n) × (n ≤ tasks)
+pub within-true : (n : ℕ) → within 1 tasks n ≡ true → (1 ≤ n) × (n ≤ tasks)
 within-true n e = go (leb 1 n) (leb n tasks) refl refl e
   where
     go : (a b : Bool) → leb 1 n ≡ a → leb n tasks ≡ b → a && b ≡ true → (1 ≤ n) × (n ≤ tasks)
@@ -120,7 +120,7 @@ within-true n e = go (leb 1 n) (leb n tasks) refl refl e
     go true false p q e = let z : _≡_ {A = ℕ} 0 1 = cc in absurd (omega arith)
     go false b p q e = let z : _≡_ {A = ℕ} 0 1 = cc in absurd (omega arith)
 
-within-false : (n : ℕ) → within 1 tasks n ≡ false → (n ≡ 0) ⊎ (tasks < n)
+pub within-false : (n : ℕ) → within 1 tasks n ≡ false → (n ≡ 0) ⊎ (tasks < n)
 within-false n e = go (leb 1 n) (leb n tasks) refl refl e
   where
     go : (a b : Bool) → leb 1 n ≡ a → leb n tasks ≡ b → a && b ≡ false → (n ≡ 0) ⊎ (tasks < n)
@@ -128,11 +128,11 @@ within-false n e = go (leb 1 n) (leb n tasks) refl refl e
     go true false p q e = inr (leb-false _ _ q)
     go false b p q e = inl (let h : n < 1 = leb-false 1 n p in omega arith)
 
-within-none : (n : ℕ) → (n ≡ 0) ⊎ (tasks < n) → within 1 tasks n ≡ false
+pub within-none : (n : ℕ) → (n ≡ 0) ⊎ (tasks < n) → within 1 tasks n ≡ false
 within-none n (inl e) = rw e
 within-none n (inr e) = rw (lt-leb n tasks e, le-leb 1 n (omega arith))
 
-same-currents : (k : Kernel) → k ≡ withCurrents k (k .tasks .current)
+pub same-currents : (k : Kernel) → k ≡ withCurrents k (k .tasks .current)
 unfolding withCurrents withTasks
 same-currents k = refl
 
