@@ -20,7 +20,7 @@ use Rattle.model.specs.declared.number.MutexNumber.{MutexNumber}
 use Rattle.model.specs.declared.number.MaybeMutex.{MaybeMutex}
 use Rattle.model.specs.declared.number.MaybeMutex as mMutex
 use Rattle.model.proofs.NumberLaws.{Names, numbered-at, task-there, task-none, mutex-there, mutex-none}
-use Rattle.priority.specs.Least.{least}
+use Rattle.priority.specs.Least.{least, least-first}
 use Rattle.priority.specs.Recompute.{least-suc}
 
 -- ---- numbers
@@ -59,6 +59,9 @@ inside a b (inr e) = absurd (omega arith)
 abbrev pub ownOf : Kernel → ℕ → ℕ
 ownOf k t = ownPriority (facts k) t
 
+abbrev pub baseOf : Kernel → ℕ → ℕ
+baseOf k t = facts k .base ! t
+
 -- whether a task holds a mutex whose ceiling counts
 abbrev pub holdsCeiling : Facts → ℕ → ℕ → Bool
 holdsCeiling f t m = eqb (f .holder ! m) t && eqb (f .mutexAttribute ! m) ceilinged
@@ -72,9 +75,13 @@ unfoldable pub ownSoFar : Kernel → ℕ → ℕ → ℕ
 ownSoFar k t n = least (facts k .base ! t) (λ m. facts k .ceiling ! m) (holdsCeiling (facts k) t) n
 
 module _ (k : Kernel) (t : ℕ) where
+  pub base-is : 1 ≤ t → k .tasks .base ! t ≡ baseOf k t
+  unfolding facts
+  base-is h = sym (numbered-at (k .tasks .base) t h)
+
   pub own-start : 1 ≤ t → k .tasks .base ! t ≡ ownSoFar k t 0
-  unfolding ownSoFar facts
-  own-start h = sym (numbered-at (k .tasks .base) t h)
+  unfolding ownSoFar
+  own-start h = base-is h
 
   pub own-step : (n : ℕ) → withCeilingOf k t (suc n) (ownSoFar k t n) ≡ ownSoFar k t (suc n)
   unfolding ownSoFar withCeilingOf
@@ -103,3 +110,71 @@ module _ (k : Kernel) (t : ℕ) where
         go : (b : Bool) → p ≡ cond (b && false) (min p (numbered (k .mutexes .ceiling) ! m)) p
         go true = refl
         go false = refl
+
+-- ---- the tasks that hold ceilings
+
+-- who holds a mutex whose ceiling counts, 0 for nobody
+unfoldable pub ceilingHolder : Kernel → ℕ → ℕ
+ceilingHolder k m = cond (eqb (facts k .mutexAttribute ! m) ceilinged) (facts k .holder ! m) 0
+
+-- what counts as a task's own priority once the holders of the first n mutexes' ceilings have been asked for theirs
+abbrev pub ownAsked : Kernel → ℕ → ℕ → ℕ
+ownAsked k zero t = baseOf k t
+ownAsked k (suc n) t = cond (eqb (ceilingHolder k (suc n)) t) (ownOf k t) (ownAsked k n t)
+
+and-true : (b : Bool) → b ≡ b && true
+and-true true = refl
+and-true false = refl
+
+and-false : (b : Bool) → b && false ≡ false
+and-false true = refl
+and-false false = refl
+
+module _ (k : Kernel) (t : ℕ) where
+  -- it is no more urgent than the own priority
+  pub asked-below : (n : ℕ) → ownOf k t ≤ ownAsked k n t
+  unfolding ownPriority
+  asked-below zero = least-first (λ m. facts k .ceiling ! m) (holdsCeiling (facts k) t) (facts k .base ! t) mutexes
+  asked-below (suc n) = go (eqb (ceilingHolder k (suc n)) t) (asked-below n)
+    where
+      go : (b : Bool) → ownOf k t ≤ ownAsked k n t → ownOf k t ≤ cond b (ownOf k t) (ownAsked k n t)
+      go true h = omega arith
+      go false h = h
+
+  holder-holds : (m : ℕ) → 1 ≤ t → eqb (ceilingHolder k m) t ≡ holdsCeiling (facts k) t m
+  unfolding ceilingHolder
+  holder-holds m h = go (eqb (facts k .mutexAttribute ! m) ceilinged)
+    where
+      go : (b : Bool) → eqb (cond b (facts k .holder ! m) 0) t ≡ eqb (facts k .holder ! m) t && b
+      go true = and-true (eqb (facts k .holder ! m) t)
+      go false = ne-eqb 0 t (λ e. absurd (omega arith)) ∙ sym (and-false (eqb (facts k .holder ! m) t))
+
+  -- asked for already, or no ceiling is held so far
+  asked-or : 1 ≤ t → (n : ℕ) → (ownAsked k n t ≡ ownOf k t) ⊎ (ownAsked k n t ≡ ownSoFar k t n)
+  unfolding ownSoFar withCeilingOf
+  asked-or h zero = inr refl
+  asked-or h (suc n) =
+      rw (holder-holds (suc n) h, ← own-step k t n) (go (holdsCeiling (facts k) t (suc n)) (asked-or h n))
+    where
+      go : (b : Bool) → (ownAsked k n t ≡ ownOf k t) ⊎ (ownAsked k n t ≡ ownSoFar k t n)
+          → (cond b (ownOf k t) (ownAsked k n t) ≡ ownOf k t) ⊎ (cond b (ownOf k t) (ownAsked k n t) ≡ cond b (min (ownSoFar k t n) (facts k .ceiling ! suc n)) (ownSoFar k t n))
+      go true e = inl refl
+      go false e = e
+
+  -- when all have been asked, it is the own priority
+  pub asked-all : 1 ≤ t → ownAsked k mutexes t ≡ ownOf k t
+  asked-all h = go (asked-or h mutexes)
+    where
+      go : (ownAsked k mutexes t ≡ ownOf k t) ⊎ (ownAsked k mutexes t ≡ ownSoFar k t mutexes) → ownAsked k mutexes t ≡ ownOf k t
+      go (inl e) = e
+      go (inr e) = e ∙ own-all k t
+
+-- of the mutex that was named by n: it has a ceiling, or not
+module _ (k : Kernel) (n m : ℕ) (h : Named n mutexes m) where
+  pub holder-counts : k .mutexes .attribute ! m ≡ ceilinged → k .mutexes .holder ! m ≡ ceilingHolder k n
+  unfolding ceilingHolder facts
+  holder-counts e = rw (← h .same, numbered-at (k .mutexes .attribute) m (h .low), numbered-at (k .mutexes .holder) m (h .low), eq-eqb _ _ e)
+
+  pub holder-not : (k .mutexes .attribute ! m ≡ ceilinged → ⊥) → mTask.the-variants.Nothing ≡ maybeTask (wordNumber (ceilingHolder k n) tasks)
+  unfolding ceilingHolder facts maybeTask wordNumber
+  holder-not e = rw (← h .same, numbered-at (k .mutexes .attribute) m (h .low), ne-eqb _ _ e)

@@ -9,12 +9,15 @@ use mathlib.Core.List.{List, [], _∷_}
 use lib.ListN.{length, set, length-drop, List·getD-eq-default}
 use lib.Seq.{getD-set-same, getD-set-other}
 use lib.Dec.{eqb, ltb, leb}
-use borrow.Author.Tests.{lt-ltb, le-ltb, le-leb, lt-leb, leb-true, leb-false, eq-eqb, ne-eqb}
+use borrow.Author.Tests.{lt-ltb, le-ltb, le-leb, lt-leb, leb-true, leb-false, eq-eqb, ne-eqb, eqb-true, eqb-false}
 use Rattle.model.specs.Sizes.{tasks, mutexes}
 use Rattle.model.specs.Lists.{_!_, countFrom, upTo, select, keep, within}
 use Rattle.model.specs.Facts.{Facts, locking, inherits}
 use Rattle.model.specs.Priority.{holderAwaited}
 use Rattle.model.specs.Kernel.{Kernel, facts, numbered, standsIn, withTasks, withCurrent, withCurrents}
+use Rattle.model.specs.Number.{wordNumber, maybeTask, maybeMutex}
+use Rattle.model.specs.declared.number.MaybeTask as mTask
+use Rattle.model.specs.declared.number.MaybeMutex as mMutex
 use Rattle.state.specs.Words.{wordCount, sizes, fields, kernel, sized, size-of, Represents}
 use Rattle.state.specs.Field as field
 use Rattle.priority.specs.Raise.{raised, Falls, stops, goes, ends-here, falls-on}
@@ -41,6 +44,14 @@ unfoldable pub raisedFromMutex : Kernel → ℕ → ℕ → Kernel
 raisedFromMutex k m p =
     let h = passesTo (facts k) m in
     withCurrents k (cond (within 1 tasks h) (raised (awaited k) h p (k .tasks .current)) (k .tasks .current))
+
+-- the first step of a task's walk: the task alone is raised, if it is less urgent
+unfoldable pub raisedOne : Kernel → ℕ → ℕ → Kernel
+raisedOne k v p = cond (leb (k .tasks .current ! v) p) k (withCurrent k v p)
+
+-- and what the walk goes on from: the mutex that a raised task waits for, 0 for none
+unfoldable pub goesOnTo : Kernel → ℕ → ℕ → ℕ
+goesOnTo k v p = cond (leb (k .tasks .current ! v) p) 0 (cond (eqb (k .tasks .place ! v) locking) (k .tasks .object ! v) 0)
 
 -- What a walk asks of the words: no step leads to a less urgent task, but for the step that it takes. Then a task that is as urgent
 -- already leads only to tasks that are.
@@ -112,7 +123,7 @@ above-falls cs v p n a b h =
 -- ---- the kernel that the words hold
 
 -- a number of a task, or none
-within-true : (n : ℕ) → within 1 tasks n ≡ true → (1 ≤ n) × (n ≤ tasks)
+pub within-true : (n : ℕ) → within 1 tasks n ≡ true → (1 ≤ n) × (n ≤ tasks)
 within-true n e = go (leb 1 n) (leb n tasks) refl refl e
   where
     go : (a b : Bool) → leb 1 n ≡ a → leb n tasks ≡ b → a && b ≡ true → (1 ≤ n) × (n ≤ tasks)
@@ -120,7 +131,7 @@ within-true n e = go (leb 1 n) (leb n tasks) refl refl e
     go true false p q e = let z : _≡_ {A = ℕ} 0 1 = cc in absurd (omega arith)
     go false b p q e = let z : _≡_ {A = ℕ} 0 1 = cc in absurd (omega arith)
 
-within-false : (n : ℕ) → within 1 tasks n ≡ false → (n ≡ 0) ⊎ (tasks < n)
+pub within-false : (n : ℕ) → within 1 tasks n ≡ false → (n ≡ 0) ⊎ (tasks < n)
 within-false n e = go (leb 1 n) (leb n tasks) refl refl e
   where
     go : (a b : Bool) → leb 1 n ≡ a → leb n tasks ≡ b → a && b ≡ false → (n ≡ 0) ⊎ (tasks < n)
@@ -128,11 +139,11 @@ within-false n e = go (leb 1 n) (leb n tasks) refl refl e
     go true false p q e = inr (leb-false _ _ q)
     go false b p q e = inl (let h : n < 1 = leb-false 1 n p in omega arith)
 
-within-none : (n : ℕ) → (n ≡ 0) ⊎ (tasks < n) → within 1 tasks n ≡ false
+pub within-none : (n : ℕ) → (n ≡ 0) ⊎ (tasks < n) → within 1 tasks n ≡ false
 within-none n (inl e) = rw e
 within-none n (inr e) = rw (lt-leb n tasks e, le-leb 1 n (omega arith))
 
-same-currents : (k : Kernel) → k ≡ withCurrents k (k .tasks .current)
+pub same-currents : (k : Kernel) → k ≡ withCurrents k (k .tasks .current)
 unfolding withCurrents withTasks
 same-currents k = refl
 
@@ -178,129 +189,169 @@ module _ (k : Kernel) where
   unfolding passesTo facts
   passes-not m a e = rw (numbered-at (k .mutexes .attribute) m a, ne-eqb _ _ e)
 
+-- ---- a task's first step
+
+module _ (k : Kernel) (v p : ℕ) where
+  -- it is as urgent already
+  pub one-same : k .tasks .current ! v ≤ p → raisedOne k v p ≡ k
+  unfolding raisedOne
+  one-same u = rw (le-leb _ _ u)
+
+  pub one-ends : k .tasks .current ! v ≤ p → mMutex.the-variants.Nothing ≡ maybeMutex (wordNumber (goesOnTo k v p) mutexes)
+  unfolding goesOnTo maybeMutex wordNumber
+  one-ends u = rw (le-leb _ _ u)
+
+  -- or less urgent
+  module _ (less : p < k .tasks .current ! v) where
+    pub one-raised : raisedOne k v p ≡ withCurrent k v p
+    unfolding raisedOne
+    one-raised = rw (lt-leb _ _ less)
+
+    module _ (x : List ℕ) (s : kernel x ≡ withCurrent k v p) where
+      place-kept : kernel x .tasks .place ≡ k .tasks .place
+      unfolding withCurrent withTasks
+      place-kept = ap (λ (k : Kernel). k .tasks .place) s
+
+      object-kept : kernel x .tasks .object ≡ k .tasks .object
+      unfolding withCurrent withTasks
+      object-kept = ap (λ (k : Kernel). k .tasks .object) s
+
+      pub one-mutex : kernel x .tasks .place ! v ≡ locking → kernel x .tasks .object ! v ≡ goesOnTo k v p
+      unfolding goesOnTo
+      one-mutex e = rw (lt-leb _ _ less, eq-eqb _ _ (rw place-kept at e), object-kept)
+
+      pub one-none : (kernel x .tasks .place ! v ≡ locking → ⊥) → mMutex.the-variants.Nothing ≡ maybeMutex (wordNumber (goesOnTo k v p) mutexes)
+      unfolding goesOnTo maybeMutex wordNumber
+      one-none e = rw (lt-leb _ _ less, ne-eqb _ _ (rw place-kept at e))
+
+  -- a mutex that the walk goes on from: the task is less urgent, and waits for it
+  goes-on : (m : ℕ) → Named (goesOnTo k v p) mutexes m → (p < k .tasks .current ! v) × (k .tasks .place ! v ≡ locking) × Named (k .tasks .object ! v) mutexes m
+  unfolding goesOnTo
+  goes-on m e = go (leb (k .tasks .current ! v) p) (eqb (k .tasks .place ! v) locking) refl refl e
+    where
+      go : (b c : Bool) → leb (k .tasks .current ! v) p ≡ b → eqb (k .tasks .place ! v) locking ≡ c
+          → Named (cond b 0 (cond c (k .tasks .object ! v) 0)) mutexes m
+          → (p < k .tasks .current ! v) × (k .tasks .place ! v ≡ locking) × Named (k .tasks .object ! v) mutexes m
+      go true c q r e = let a = e .same in let b = e .low in absurd (omega arith)
+      go false true q r e = (leb-false _ _ q, eqb-true _ _ r, e)
+      go false false q r e = let a = e .same in let b = e .low in absurd (omega arith)
+
 -- ---- a task's walk
 
 module _ (w : List ℕ) (v p : ℕ) (h : MayRaise w v p) where
+  abbrev next : ℕ → ℕ
+  next = awaited (kernel w)
+
+  abbrev cs : List ℕ
+  cs = kernel w .tasks .current
+
   -- it stops where the task is as urgent already
-  pub stays : kernel w .tasks .current ! v ≤ p → Represents w (raisedKernel (kernel w) v p)
+  stays : cs ! v ≤ p → kernel w ≡ raisedKernel (kernel w) v p
   unfolding raisedKernel
   stays u =
-      record {
-        length = h .size;
-        kernel =
-            same-currents (kernel w)
-            ∙ ap (withCurrents (kernel w))
-            (sym
-            (stops (awaited (kernel w)) (awaited-none w (h .size)) (kernel w .tasks .current) v p (current-length w (h .size)) (h .low) (h .high) u (h .falls)));
-      }
+      same-currents (kernel w)
+      ∙ ap (withCurrents (kernel w)) (sym (stops next (awaited-none w (h .size)) cs v p (current-length w (h .size)) (h .low) (h .high) u (h .falls)))
 
-  -- or the task has been raised
-  module _ (less : p < kernel w .tasks .current ! v) (x : List ℕ) (s : Represents x (withCurrent (kernel w) v p)) where
-    abbrev next : ℕ → ℕ
-    next = awaited (kernel w)
+  -- where a raised task leads nowhere, the walk is over
+  leads-nowhere : p < cs ! v → (next v ≡ 0) ⊎ (tasks < next v) → withCurrent (kernel w) v p ≡ raisedKernel (kernel w) v p
+  unfolding raisedKernel withCurrents withCurrent withTasks
+  leads-nowhere less e = ap (withCurrents (kernel w)) (ends-here next (awaited-none w (h .size)) cs v p (current-length w (h .size)) (h .low) (h .high) less e)
 
-    abbrev cs : List ℕ
-    cs = kernel w .tasks .current
+  over : (goesOnTo (kernel w) v p ≡ 0) ⊎ (mutexes < goesOnTo (kernel w) v p) → raisedOne (kernel w) v p ≡ raisedKernel (kernel w) v p
+  unfolding goesOnTo
+  over e = go (leb (cs ! v) p) (eqb (kernel w .tasks .place ! v) locking) refl refl e
+    where
+      go : (b c : Bool) → leb (cs ! v) p ≡ b → eqb (kernel w .tasks .place ! v) locking ≡ c
+          → (cond b 0 (cond c (kernel w .tasks .object ! v) 0) ≡ 0) ⊎ (mutexes < cond b 0 (cond c (kernel w .tasks .object ! v) 0))
+          → raisedOne (kernel w) v p ≡ raisedKernel (kernel w) v p
+      go true c q r e = let u = leb-true _ _ q in one-same (kernel w) v p u ∙ stays u
+      go false true q r e =
+          let less = leb-false _ _ q in
+          one-raised (kernel w) v p less
+          ∙ leads-nowhere less (inl (awaits (kernel w) v (h .low) (eqb-true _ _ r) ∙ passes-none (kernel w) _ (attribute-none w (h .size) _ e)))
+      go false false q r e =
+          let less = leb-false _ _ q in
+          one-raised (kernel w) v p less ∙ leads-nowhere less (inl (awaits-none (kernel w) v (h .low) (eqb-false _ _ r)))
 
-    pub fewer-above : above p (kernel x .tasks .current) < above p (kernel w .tasks .current)
-    unfolding withCurrent withTasks
-    fewer-above =
-        rw (s .kernel) (above-falls (kernel w .tasks .current) v p (current-length w (h .size)) (h .low) (h .high) less)
+  -- after the first step
+  module _ (x : List ℕ) (s : Represents x (raisedOne (kernel w) v p)) where
+    pub one-over : (goesOnTo (kernel w) v p ≡ 0) ⊎ (mutexes < goesOnTo (kernel w) v p) → Represents x (raisedKernel (kernel w) v p)
+    one-over e = record { length = s .length; kernel = s .kernel ∙ over e }
 
-    -- where it leads nowhere, the walk is over
-    over : (next v ≡ 0) ⊎ (tasks < next v) → Represents x (raisedKernel (kernel w) v p)
-    unfolding raisedKernel withCurrents withCurrent withTasks
-    over e =
-        record {
-          length = s .length;
-          kernel =
-              s .kernel
-              ∙ ap (withCurrents (kernel w)) (ends-here next (awaited-none w (h .size)) cs v p (current-length w (h .size)) (h .low) (h .high) less e);
-        }
+    -- else it goes on from the mutex
+    module _ (m : ℕ) (e : Named (goesOnTo (kernel w) v p) mutexes m) where
+      less : p < cs ! v
+      less = goes-on (kernel w) v p m e .0
 
-    place-kept : kernel x .tasks .place ≡ kernel w .tasks .place
-    unfolding withCurrent withTasks
-    place-kept = ap (λ (k : Kernel). k .tasks .place) (s .kernel)
+      raised-now : kernel x ≡ withCurrent (kernel w) v p
+      raised-now = s .kernel ∙ one-raised (kernel w) v p less
 
-    object-kept : kernel x .tasks .object ≡ kernel w .tasks .object
-    unfolding withCurrent withTasks
-    object-kept = ap (λ (k : Kernel). k .tasks .object) (s .kernel)
+      pub fewer-above : above p (kernel x .tasks .current) < above p cs
+      unfolding withCurrent withTasks
+      fewer-above = rw raised-now (above-falls cs v p (current-length w (h .size)) (h .low) (h .high) less)
 
-    pub not-locking : (kernel x .tasks .place ! v ≡ locking → ⊥) → Represents x (raisedKernel (kernel w) v p)
-    not-locking e = over (inl (awaits-none (kernel w) v (h .low) (rw place-kept at e)))
+      leads-on : next v ≡ passesTo (facts (kernel w)) m
+      leads-on =
+          let g = goes-on (kernel w) v p m e in
+          awaits (kernel w) v (h .low) (g .1) ∙ ap (passesTo (facts (kernel w))) (sym (g .2 .same))
 
-    module _ (waits : kernel x .tasks .place ! v ≡ locking) where
-      leads : next v ≡ passesTo (facts (kernel w)) (kernel x .tasks .object ! v)
-      leads =
-          awaits (kernel w) v (h .low) (rw place-kept at waits)
-          ∙ ap (λ (os : List ℕ). passesTo (facts (kernel w)) (os ! v)) (sym object-kept)
+      -- the kernel afterwards has other current priorities, and nothing else
+      falls-there : Falls (awaited (withCurrent (kernel w) v p)) (withCurrent (kernel w) v p .tasks .current) (passesTo (facts (withCurrent (kernel w) v p)) m) p
+      unfolding withCurrent withTasks facts standsIn
+      falls-there =
+          subst (λ (u : ℕ). Falls next (set cs v p) u p) leads-on
+          (falls-on next (awaited-none w (h .size)) cs v p (current-length w (h .size)) (h .low) (h .high) less (h .falls))
 
-      pub no-mutex : (kernel x .tasks .object ! v ≡ 0) ⊎ (mutexes < kernel x .tasks .object ! v) → Represents x (raisedKernel (kernel w) v p)
-      no-mutex e = over (inl (leads ∙ passes-none (kernel w) _ (attribute-none w (h .size) _ e)))
+      pub onward : MayRaiseFrom x m p
+      onward =
+          record {
+            size = s .length;
+            low = e .low;
+            falls = subst (λ (k : Kernel). Falls (awaited k) (k .tasks .current) (passesTo (facts k) m) p) (sym raised-now) falls-there;
+          }
 
-      -- else it goes on from the mutex
-      module _ (m : ℕ) (e : Named (kernel x .tasks .object ! v) mutexes m) where
-        leads-on : next v ≡ passesTo (facts (kernel w)) m
-        leads-on = leads ∙ ap (passesTo (facts (kernel w))) (sym (e .same))
+      rest : (b : Bool) → within 1 tasks (next v) ≡ b → cond b (raised next (next v) p (set cs v p)) (set cs v p) ≡ raised next v p cs
+      rest true q =
+          let l = within-true (next v) q in
+          goes next (awaited-none w (h .size)) cs v p (current-length w (h .size)) (h .low) (h .high) less (λ o. omega arith)
+      rest false q = ends-here next (awaited-none w (h .size)) cs v p (current-length w (h .size)) (h .low) (h .high) less (within-false (next v) q)
 
-        -- the kernel afterwards has other current priorities, and nothing else
-        falls-there : Falls (awaited (withCurrent (kernel w) v p)) (withCurrent (kernel w) v p .tasks .current) (passesTo (facts (withCurrent (kernel w) v p)) m) p
-        unfolding withCurrent withTasks facts standsIn
-        falls-there =
-            subst (λ (u : ℕ). Falls next (set cs v p) u p) leads-on
-            (falls-on next (awaited-none w (h .size)) cs v p (current-length w (h .size)) (h .low) (h .high) less (h .falls))
+      rest-there : raisedFromMutex (withCurrent (kernel w) v p) m p ≡ raisedKernel (kernel w) v p
+      unfolding raisedFromMutex raisedKernel withCurrent withCurrents withTasks facts standsIn
+      rest-there =
+          ap (λ (u : ℕ). withCurrents (kernel w) (cond (within 1 tasks u) (raised next u p (set cs v p)) (set cs v p))) (sym leads-on)
+          ∙ ap (withCurrents (kernel w)) (rest (within 1 tasks (next v)) refl)
 
-        pub onward : MayRaiseFrom x m p
-        onward =
-            record {
-              size = s .length;
-              low = e .low;
-              falls = subst (λ (k : Kernel). Falls (awaited k) (k .tasks .current) (passesTo (facts k) m) p) (sym (s .kernel)) falls-there;
-            }
-
-        rest : (b : Bool) → within 1 tasks (next v) ≡ b → cond b (raised next (next v) p (set cs v p)) (set cs v p) ≡ raised next v p cs
-        rest true q =
-            let l = within-true (next v) q in
-            goes next (awaited-none w (h .size)) cs v p (current-length w (h .size)) (h .low) (h .high) less (λ o. omega arith)
-        rest false q = ends-here next (awaited-none w (h .size)) cs v p (current-length w (h .size)) (h .low) (h .high) less (within-false (next v) q)
-
-        rest-there : raisedFromMutex (withCurrent (kernel w) v p) m p ≡ raisedKernel (kernel w) v p
-        unfolding raisedFromMutex raisedKernel withCurrent withCurrents withTasks facts standsIn
-        rest-there =
-            ap (λ (u : ℕ). withCurrents (kernel w) (cond (within 1 tasks u) (raised next u p (set cs v p)) (set cs v p))) (sym leads-on)
-            ∙ ap (withCurrents (kernel w)) (rest (within 1 tasks (next v)) refl)
-
-        pub onward-done : (y : List ℕ) → Represents y (raisedFromMutex (kernel x) m p) → Represents y (raisedKernel (kernel w) v p)
-        onward-done y r =
-            record { length = r .length; kernel = r .kernel ∙ ap (λ (k : Kernel). raisedFromMutex k m p) (s .kernel) ∙ rest-there }
+      pub onward-done : (y : List ℕ) → Represents y (raisedFromMutex (kernel x) m p) → Represents y (raisedKernel (kernel w) v p)
+      onward-done y r =
+          record { length = r .length; kernel = r .kernel ∙ ap (λ (k : Kernel). raisedFromMutex k m p) raised-now ∙ rest-there }
 
 -- ---- a mutex's walk
 
+-- what a mutex passes on to, as the code finds it
+module _ (k : Kernel) (m : ℕ) (low : 1 ≤ m) where
+  pub passes-holder : k .mutexes .attribute ! m ≡ inherits → k .mutexes .holder ! m ≡ passesTo (facts k) m
+  passes-holder e = sym (passes-on k m low e)
+
+  pub passes-nobody : (k .mutexes .attribute ! m ≡ inherits → ⊥) → mTask.the-variants.Nothing ≡ maybeTask (wordNumber (passesTo (facts k) m) tasks)
+  unfolding maybeTask wordNumber
+  passes-nobody e = rw (passes-not k m low e)
+
 module _ (w : List ℕ) (m p : ℕ) (h : MayRaiseFrom w m p) where
   -- it ends where the mutex passes nothing on, or to nobody
-  ended : (passesTo (facts (kernel w)) m ≡ 0) ⊎ (tasks < passesTo (facts (kernel w)) m) → Represents w (raisedFromMutex (kernel w) m p)
+  pub no-heir : (passesTo (facts (kernel w)) m ≡ 0) ⊎ (tasks < passesTo (facts (kernel w)) m) → Represents w (raisedFromMutex (kernel w) m p)
   unfolding raisedFromMutex
-  ended e = record { length = h .size; kernel = rw (within-none _ e) (same-currents (kernel w)) }
+  no-heir e = record { length = h .size; kernel = rw (within-none _ e) (same-currents (kernel w)) }
 
-  pub passes-nothing : (kernel w .mutexes .attribute ! m ≡ inherits → ⊥) → Represents w (raisedFromMutex (kernel w) m p)
-  passes-nothing e = ended (inl (passes-not (kernel w) m (h .low) e))
+  -- else it goes on from the holder
+  module _ (v : ℕ) (e : Named (passesTo (facts (kernel w)) m) tasks v) where
+    pub to-holder : MayRaise w v p
+    to-holder = record { size = h .size; low = e .low; high = e .high; falls = rw (e .same) (h .falls) }
 
-  module _ (on : kernel w .mutexes .attribute ! m ≡ inherits) where
-    pub no-holder : (kernel w .mutexes .holder ! m ≡ 0) ⊎ (tasks < kernel w .mutexes .holder ! m) → Represents w (raisedFromMutex (kernel w) m p)
-    no-holder e = ended (rw (passes-on (kernel w) m (h .low) on) e)
-
-    -- else it goes on from the holder
-    module _ (v : ℕ) (e : Named (kernel w .mutexes .holder ! m) tasks v) where
-      holds : v ≡ passesTo (facts (kernel w)) m
-      holds = e .same ∙ sym (passes-on (kernel w) m (h .low) on)
-
-      pub to-holder : MayRaise w v p
-      to-holder = record { size = h .size; low = e .low; high = e .high; falls = rw holds (h .falls) }
-
-      pub to-holder-done : (y : List ℕ) → Represents y (raisedKernel (kernel w) v p) → Represents y (raisedFromMutex (kernel w) m p)
-      unfolding raisedFromMutex raisedKernel
-      to-holder-done y r =
-          record {
-            length = r .length;
-            kernel = rw (← holds, le-leb 1 v (e .low), le-leb v tasks (e .high)) (r .kernel);
-          }
+    pub to-holder-done : (y : List ℕ) → Represents y (raisedKernel (kernel w) v p) → Represents y (raisedFromMutex (kernel w) m p)
+    unfolding raisedFromMutex raisedKernel
+    to-holder-done y r =
+        record {
+          length = r .length;
+          kernel = rw (← e .same, le-leb 1 v (e .low), le-leb v tasks (e .high)) (r .kernel);
+        }

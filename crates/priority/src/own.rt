@@ -1,5 +1,6 @@
-// A task's own priority.
+// A task's own priority, and which tasks' own priorities may differ from their bases.
 use model::number::MaybeMutex;
+use model::number::MaybeTask;
 use model::number::MutexNumber;
 use model::number::TaskNumber;
 use model::sizes::MUTEXES;
@@ -8,9 +9,10 @@ use state::task;
 ghost use mathlib.Core.Path.{_≡_};
 ghost use Prim.Native.Nat.{_≤_};
 ghost use lib.ListN.{length};
-ghost use Rattle.model.specs.Sizes.{mutexes};
+ghost use Rattle.model.specs.Sizes.{tasks, mutexes};
+ghost use Rattle.model.specs.Number.{wordNumber, maybeTask};
 ghost use Rattle.state.specs.Words.{wordCount, kernel};
-ghost use Rattle.priority.specs.Own.{ownOf, withCeilingOf};
+ghost use Rattle.priority.specs.Own.{ownOf, withCeilingOf, ceilingHolder};
 
 // A mutex's attribute: its ceiling counts for the task that holds it.
 const CEILINGED: u32 = 3;
@@ -47,4 +49,21 @@ fn with_ceiling(state: &[u32], t: TaskNumber, n: u32, p: u32) -> u32
     }
     let c = mutex::ceiling(state, m);
     if c < p { c } else { p }
+}
+
+// The task that holds the mutex of a number, if the mutex's ceiling counts.
+pub(crate) fn ceiling_holder(state: &[u32], n: u32) -> MaybeTask
+    requires { ⌜ length (now state) ≡ wordCount ⌝ }
+    requires { ⌜ 1 ≤ n ⌝ }
+    requires { ⌜ n ≤ mutexes ⌝ }
+    ensures { λ r. ⌜ r ≡ maybeTask (wordNumber (ceilingHolder (kernel (now (state .entry))) n) tasks) ⌝ }
+{
+    let MaybeMutex::Mutex(m) = MutexNumber::from_word(n) else {
+        return MaybeTask::Nothing;
+    };
+    if mutex::attribute(state, m) == CEILINGED {
+        TaskNumber::from_word(mutex::holder(state, m))
+    } else {
+        MaybeTask::Nothing
+    }
 }

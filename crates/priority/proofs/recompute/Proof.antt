@@ -1,43 +1,43 @@
--- `recompute` meets its contract. The loop's invariant: the tasks passed have been raised to their own priorities. Assumes nothing.
+-- `recompute` meets its contract. The loop's invariant: the holders of the mutexes passed have been raised to their own priorities. Assumes nothing.
 use borrow.Author.Needs.{needs}
 use mathlib.Core.Path.{_≡_, _∙_, sym, ap}
 use Prim.Native.Nat.{_≤_, _-_}
 use native.Mathlib.Omega.{arith}
-use Rattle.model.specs.Sizes.{tasks}
+use Rattle.model.specs.Sizes.{mutexes}
 use Rattle.model.specs.World.{recompute}
 use Rattle.state.specs.Words.{kernel, Represents}
-use Rattle.priority.specs.Afresh.{raisedSoFar, so-far-start, so-far-may, so-far-step, so-far-all, recompute-none, own-fits}
+use Rattle.priority.specs.Afresh.{holdersSoFar, holders-start, holders-may, holders-step, holders-all, recompute-bases, own-fits}
 use Rattle.priority.proofs.recompute.Statement.{statement}
 use Rattle.priority.proofs.recompute.Tie as tie
 
 abbrev Inv-loop : tie.InvT-loop
-Inv-loop state₀ n₀ state n = Represents state (raisedSoFar (kernel state₀) n) × (n ≤ tasks)
+Inv-loop state₀ n₀ state n = Represents state (holdersSoFar (kernel state₀) n) × (n ≤ mutexes)
 
 abbrev μ-loop : tie.MeasureT-loop
-μ-loop state₀ n₀ state n = tasks - n
+μ-loop state₀ n₀ state n = mutexes - n
 
 loop-holds : tie.Need-loop-holds Inv-loop μ-loop
-loop-holds c = let f = c .before .before .set-every-current .ensures in (record { length = f .length; kernel = rw (f .kernel) (so-far-start _) }, omega arith)
+loop-holds c = let f = c .before .before .raise-to-bases .ensures in (record { length = f .length; kernel = rw (f .kernel) (holders-start _) }, omega arith)
 
-raise-to-own-requires : tie.Need-raise-to-own-requires Inv-loop μ-loop
-raise-to-own-requires c κs = so-far-may _ (c .before .before .before .before .before .set-every-current .ensures .length) _ _ (c .before .before .loop .inv .0) (omega arith)
+raise-holder-requires : tie.Need-raise-holder-requires Inv-loop μ-loop
+raise-holder-requires c κs = holders-may _ (c .before .before .before .before .before .raise-to-bases .ensures .length) _ _ (c .before .before .loop .inv .0) (omega arith)
 
 loop-again : tie.Need-loop-again Inv-loop μ-loop
 loop-again c =
-    (so-far-step _ (c .before .before .before .before .before .before .before .before .set-every-current .ensures .length) _ _ (c .before .before .before .before .before .loop .inv .0) _ (c .before .before .raise-to-own .ensures), omega arith)
+    (holders-step _ (c .before .before .before .before .before .before .before .before .raise-to-bases .ensures .length) _ _ (c .before .before .before .before .before .loop .inv .0) _ (c .before .before .raise-holder .ensures), omega arith)
 
 same-length : tie.Need-same-length Inv-loop μ-loop
 same-length c = c .before .loop .inv .0 .length ∙ sym (c .before .before .before .before .before .before .before .pre)
 
 returns : tie.Need-returns Inv-loop μ-loop
 returns c =
-    let f = c .before .before .before .before .set-every-current .ensures in
+    let f = c .before .before .before .before .raise-to-bases .ensures in
     let r = c .before .loop .inv .0 in
-    let e : c .before .loop .n ≡ tasks = omega arith in
+    let e : c .before .loop .n ≡ mutexes = omega arith in
     let fits = own-fits _ (λ i. c .before .before .slice-known2 .given i .fits) in
     record {
       length = r .length;
-      kernel = r .kernel ∙ ap (raisedSoFar _) e ∙ so-far-all _ (f .length) fits ∙ ap recompute (f .kernel) ∙ recompute-none _;
+      kernel = r .kernel ∙ ap (holdersSoFar _) e ∙ holders-all _ (f .length) fits ∙ ap recompute (f .kernel) ∙ recompute-bases _;
     }
 
 pub recompute-spec : {M : Type 1} → statement M
@@ -49,7 +49,7 @@ recompute-spec =
     (λ c κs. search needs)
     loop-holds
     (λ c. search needs)
-    raise-to-own-requires
+    raise-holder-requires
     (λ c. search needs)
     (λ c. omega arith)
     loop-again
