@@ -50,6 +50,16 @@ pub fn store_clear(store: &mut [u8], b: BufferNumber)
     clear(&mut store[a..e]);
 }
 
+// A buffer's region, where it lies.
+pub fn store_region<'a>(store: &'a [u8], b: BufferNumber) -> &'a [u8]
+    ensures { λ m. ⌜ now m ≡ region (b .0) (now (store .entry)) ⌝ }
+{
+    let p = region_part(b, store.len());
+    let a = p.start;
+    let e = p.end;
+    &store[a..e]
+}
+
 pub fn store_oldest_length(store: &[u8], b: BufferNumber) -> u32
     ensures { λ n. ⌜ n ≡ oldestLength (region (b .0) (now (store .entry))) ⌝ }
 {

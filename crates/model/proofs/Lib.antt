@@ -1,3 +1,5 @@
 pub mod ListLaws
+pub mod FlagLaws
 pub mod NumberLaws
 pub mod Table
+pub mod Loops

@@ -1,5 +1,6 @@
 pub mod Layout
 pub mod Field
 pub mod Words
+pub mod Zero
 pub mod Fresh
 pub mod Currents

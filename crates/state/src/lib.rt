@@ -4,6 +4,7 @@ pub mod arrival;
 pub mod buffer;
 pub mod layout;
 pub mod mutex;
+pub mod none;
 pub mod pool;
 pub mod task;
 

@@ -1,7 +1,9 @@
 pub mod Tests
 pub mod Agree
-pub mod Loops
+pub mod Lent
+pub mod Check
 pub mod Flags
 pub mod Waiters
 pub mod Sums
 pub mod Arrivals
+pub mod Currents

@@ -11,9 +11,10 @@ ghost use mathlib.Core.Bool.{cond};
 ghost use lib.ListN.{length};
 ghost use lib.Dec.{eqb};
 ghost use Rattle.model.specs.Sizes.{tasks};
-ghost use Rattle.model.specs.Lists.{all, occurrences, upTo};
+ghost use Rattle.model.specs.Lists.{all, occurrences, padded, same, upTo};
+ghost use Rattle.model.specs.Valid.{arrivals};
 ghost use Rattle.state.specs.Words.{wordCount, kernel};
-ghost use Rattle.valid.specs.Arrivals.{standsOnce, hasStarted};
+ghost use Rattle.valid.specs.Arrivals.{standsOnce, hasStarted, given};
 
 const PLACES: usize = TASKS as usize;
 
@@ -47,7 +48,7 @@ fn stands_once(state: &[u32], t: TaskNumber) -> bool
     !started | (n == 1)
 }
 
-pub(crate) fn each_stands_once(state: &[u32]) -> bool
+fn each_stands_once(state: &[u32]) -> bool
     requires { ⌜ length (now state) ≡ wordCount ⌝ }
     ensures { λ r. ⌜ r ≡ all (standsOnce (kernel (now (state .entry)))) (upTo tasks) ⌝ }
 {
@@ -64,7 +65,7 @@ pub(crate) fn each_stands_once(state: &[u32]) -> bool
 }
 
 // Whoever stands there was started; a place may be none's.
-pub(crate) fn all_started(state: &[u32]) -> bool
+fn all_started(state: &[u32]) -> bool
     requires { ⌜ length (now state) ≡ wordCount ⌝ }
     ensures { λ r. ⌜ r ≡ all (hasStarted (kernel (now (state .entry)))) (kernel (now (state .entry)) .arrivals) ⌝ }
 {
@@ -74,4 +75,28 @@ pub(crate) fn all_started(state: &[u32]) -> bool
         }
     }
     true
+}
+
+// "unused entries as in the fresh bench": the places that are nobody's stand last.
+fn zeros_last(state: &[u32]) -> bool
+    requires { ⌜ length (now state) ≡ wordCount ⌝ }
+    ensures { λ r. ⌜ r ≡ same (kernel (now (state .entry)) .arrivals) (padded tasks (given (kernel (now (state .entry)) .arrivals))) ⌝ }
+{
+    let mut ended = false;
+    for i in 0..PLACES {
+        let t = task(state, i);
+        if ended & (t != 0) {
+            return false;
+        }
+        ended = t == 0;
+    }
+    true
+}
+
+// All that is asked of the arrival order.
+pub(crate) fn arrivals(state: &[u32]) -> bool
+    requires { ⌜ length (now state) ≡ wordCount ⌝ }
+    ensures { λ r. ⌜ r ≡ arrivals (kernel (now (state .entry))) ⌝ }
+{
+    each_stands_once(state) & all_started(state) & zeros_last(state)
 }

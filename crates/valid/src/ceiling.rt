@@ -1,16 +1,14 @@
 // 01, "Sound": "no base above a held or awaited ceiling".
 use super::range::CEILINGED;
 use model::number::MaybeMutex;
-use model::number::MaybeTask;
 use model::number::MutexNumber;
 use model::number::TaskNumber;
 use model::sizes::MUTEXES;
-use model::sizes::TASKS;
 use queue::front::stands_in;
 use state::task::LOCKING;
 ghost use mathlib.Core.Path.{_≡_};
 ghost use lib.ListN.{length};
-ghost use Rattle.model.specs.Sizes.{tasks, mutexes};
+ghost use Rattle.model.specs.Sizes.{mutexes};
 ghost use Rattle.model.specs.Lists.{all, upTo};
 ghost use Rattle.model.specs.Valid.{ceiling};
 ghost use Rattle.state.specs.Words.{wordCount, kernel};
@@ -30,8 +28,8 @@ fn ceiling(state: &[u32], t: TaskNumber, m: MutexNumber) -> bool
     !above
 }
 
-// Of one task and every mutex, and of every task. Each number of a loop names an object, so no answer is given for want of one.
-fn ceilings_of(state: &[u32], t: TaskNumber) -> bool
+// The same of one task and every mutex. Each number of the loop names one, so no answer is given for want of one.
+pub(crate) fn ceilings_of(state: &[u32], t: TaskNumber) -> bool
     requires { ⌜ length (now state) ≡ wordCount ⌝ }
     ensures { λ r. ⌜ r ≡ all (ceiling (kernel (now (state .entry))) (t .0)) (upTo mutexes) ⌝ }
 {
@@ -41,22 +39,6 @@ fn ceilings_of(state: &[u32], t: TaskNumber) -> bool
             return false;
         };
         if !ceiling(state, t, m) {
-            return false;
-        }
-    }
-    true
-}
-
-pub(crate) fn ceilings(state: &[u32]) -> bool
-    requires { ⌜ length (now state) ≡ wordCount ⌝ }
-    ensures { λ r. ⌜ r ≡ all (λ t. all (ceiling (kernel (now (state .entry))) t) (upTo mutexes)) (upTo tasks) ⌝ }
-{
-    for n in 1..=TASKS {
-        let found = TaskNumber::from_word(n);
-        let MaybeTask::Task(t) = found else {
-            return false;
-        };
-        if !ceilings_of(state, t) {
             return false;
         }
     }

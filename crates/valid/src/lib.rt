@@ -1,8 +1,77 @@
-// The check of a lent state.
+// The check of a lent state: whether it and the two lent areas are valid, 01's "Sound".
 pub mod arrival;
 pub mod ceiling;
+pub mod current;
 pub mod entry;
+pub mod object;
 pub mod pool;
 pub mod range;
 pub mod wait;
 pub mod waiter;
+
+use areas::layout::regions_laid_out;
+use areas::outbox::outbox_laid_out;
+use model::sizes::OUTBOX_BYTES;
+use model::sizes::STORE_BYTES;
+use state::layout::WORDS;
+use state::none;
+ghost use mathlib.Core.Path.{_≡_};
+ghost use lib.ListN.{length};
+ghost use Rattle.model.specs.Sizes.{tasks, mutexes, buffers, pools};
+ghost use Rattle.model.specs.Valid.{Lists, taskLists, mutexLists, bufferLists, poolLists};
+ghost use Rattle.model.proofs.FlagLaws.{joinedFlags};
+ghost use Rattle.state.specs.Words.{wordCount, kernel};
+ghost use Rattle.valid.specs.Lent.{lent, isValid};
+ghost use Rattle.valid.specs.Check.{rightLengths, noneZero, clauses};
+
+// "A state, or an area not exactly 1,024 or 512 bytes": the lengths come first, so that whatever is lent can be read.
+fn right_lengths(state: &[u32], store: &[u8], outbox: &[u8]) -> bool
+    ensures { λ r. ⌜ r ≡ rightLengths (now (state .entry)) (now (store .entry)) (now (outbox .entry)) ⌝ }
+{
+    (state.len() == WORDS) & (store.len() == STORE_BYTES) & (outbox.len() == OUTBOX_BYTES)
+}
+
+// Entry 0 of every list is zero, so a number that names nothing can be followed.
+fn none_zero(state: &[u32]) -> bool
+    requires { ⌜ length (now state) ≡ wordCount ⌝ }
+    ensures { λ r. ⌜ r ≡ noneZero (kernel (now (state .entry))) ⌝ }
+{
+    none::tasks_zero(state)
+        & none::mutexes_zero(state)
+        & none::buffers_zero(state)
+        & none::pools_zero(state)
+}
+
+// All other clauses.
+fn clauses_hold(state: &[u32], store: &[u8], outbox: &[u8]) -> bool
+    requires { ⌜ length (now state) ≡ wordCount ⌝ }
+    requires { ⌜ Lists tasks (taskLists (kernel (now state))) ⌝ }
+    requires { ⌜ Lists mutexes (mutexLists (kernel (now state))) ⌝ }
+    requires { ⌜ Lists buffers (bufferLists (kernel (now state))) ⌝ }
+    requires { ⌜ Lists pools (poolLists (kernel (now state))) ⌝ }
+    ensures { λ r. ⌜ r ≡ joinedFlags (clauses (lent (now (state .entry)) (now (store .entry)) (now (outbox .entry)))) ⌝ }
+{
+    object::tasks_valid(state)
+        & range::mutexes_in_range(state)
+        & object::buffers_valid(state)
+        & range::pools_in_range(state)
+        & pool::flags(state)
+        & pool::pools_fit(state)
+        & arrival::arrivals(state)
+        & current::priorities(state)
+        & regions_laid_out(state, store)
+        & outbox_laid_out(state, outbox)
+}
+
+// Whether what is lent is valid. Nothing is asked of its lengths or of what it holds, and nothing is changed.
+pub fn is_valid(state: &[u32], store: &[u8], outbox: &[u8]) -> bool
+    ensures { λ r. ⌜ r ≡ isValid (now (state .entry)) (now (store .entry)) (now (outbox .entry)) ⌝ }
+{
+    if !right_lengths(state, store, outbox) {
+        return false;
+    }
+    if !none_zero(state) {
+        return false;
+    }
+    clauses_hold(state, store, outbox)
+}

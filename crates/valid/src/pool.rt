@@ -5,6 +5,7 @@ use model::number::PoolNumber;
 use model::sizes::BLOCKS;
 use model::sizes::POOL_BYTES;
 use model::sizes::POOLS;
+use state::none::flags_zero;
 ghost use mathlib.Core.Path.{_≡_};
 ghost use Prim.Native.Nat.{suc, _*_};
 ghost use lib.ListN.{length};
@@ -12,8 +13,9 @@ ghost use lib.Dec.{leb};
 ghost use Rattle.model.specs.Sizes.{pools, blocks, poolBytes};
 ghost use Rattle.model.specs.Lists.{_!_, all, countFrom, upTo};
 ghost use Rattle.model.specs.Refusal.{poolSum};
-ghost use Rattle.model.specs.Valid.{blockFlag};
+ghost use Rattle.model.specs.Valid.{blockFlag, Lists, poolLists};
 ghost use Rattle.state.specs.Words.{wordCount, kernel};
+ghost use Rattle.valid.specs.Check.{blockFlags};
 
 // "unused entries as in the fresh bench": a flag is 0, or 1 and its block one of the pool's. Block 0 stands for none and is asked too.
 fn block_flag(state: &[u32], p: PoolNumber, b: u32) -> bool
@@ -38,8 +40,7 @@ fn flags_of(state: &[u32], p: PoolNumber) -> bool
     true
 }
 
-// None's flags, those of pool 0, are not among these.
-pub(crate) fn flags(state: &[u32]) -> bool
+fn flags_of_pools(state: &[u32]) -> bool
     requires { ⌜ length (now state) ≡ wordCount ⌝ }
     ensures { λ r. ⌜ r ≡ all (λ p. all (blockFlag (kernel (now (state .entry))) p) (countFrom 0 (suc blocks))) (upTo pools) ⌝ }
 {
@@ -53,6 +54,15 @@ pub(crate) fn flags(state: &[u32]) -> bool
         }
     }
     true
+}
+
+// Of none's flags, those of pool 0, and of all others.
+pub(crate) fn flags(state: &[u32]) -> bool
+    requires { ⌜ length (now state) ≡ wordCount ⌝ }
+    requires { ⌜ Lists pools (poolLists (kernel (now state))) ⌝ }
+    ensures { λ r. ⌜ r ≡ blockFlags (kernel (now (state .entry))) ⌝ }
+{
+    flags_zero(state) & flags_of_pools(state)
 }
 
 // A pool's bytes; any two words have a product.

@@ -1,7 +1,6 @@
 // 01, "Sound": "numbers in range; unused entries as in the fresh bench". A test joins flags by `&` and `|`, which ask both sides, so that
 // its answer is the definition's formula as it stands.
 use model::number::BufferNumber;
-use model::number::MaybeBuffer;
 use model::number::MaybeMutex;
 use model::number::MaybePool;
 use model::number::MaybeTask;
@@ -10,13 +9,11 @@ use model::number::PoolNumber;
 use model::number::TaskNumber;
 use model::sizes::BLOCK_BYTES;
 use model::sizes::BLOCKS;
-use model::sizes::BUFFERS;
 use model::sizes::MESSAGE_BYTES;
 use model::sizes::MUTEXES;
 use model::sizes::POOLS;
 use model::sizes::PRIORITIES;
 use model::sizes::REGION_BYTES;
-use model::sizes::TASKS;
 use state::task::ABSENT;
 use state::task::DORMANT;
 use state::task::GETTING;
@@ -26,7 +23,7 @@ ghost use mathlib.Core.Bool.{_||_};
 ghost use mathlib.Core.List.{[], _∷_};
 ghost use lib.ListN.{length};
 ghost use lib.Dec.{eqb, leb};
-ghost use Rattle.model.specs.Sizes.{tasks, mutexes, buffers, pools};
+ghost use Rattle.model.specs.Sizes.{mutexes, pools};
 ghost use Rattle.model.specs.Lists.{_!_, all, member, upTo, within};
 ghost use Rattle.model.specs.Facts.{ready};
 ghost use Rattle.model.specs.Refusal.{mutexAttributes, bufferAttributes, poolAttributes};
@@ -77,7 +74,7 @@ fn pool_attribute(a: u32) -> bool
 }
 
 // "numbers in range" of a task: its place and its priorities. An absent task's are 0.
-fn task_range(state: &[u32], t: TaskNumber) -> bool
+pub(crate) fn task_range(state: &[u32], t: TaskNumber) -> bool
     requires { ⌜ length (now state) ≡ wordCount ⌝ }
     ensures { λ r. ⌜ r ≡ taskRange (kernel (now (state .entry))) (t .0) ⌝ }
 {
@@ -127,7 +124,7 @@ fn mutex_range(state: &[u32], m: MutexNumber) -> bool
 }
 
 // "numbers in range" of a message buffer.
-fn buffer_range(state: &[u32], b: BufferNumber) -> bool
+pub(crate) fn buffer_range(state: &[u32], b: BufferNumber) -> bool
     requires { ⌜ length (now state) ≡ wordCount ⌝ }
     ensures { λ r. ⌜ r ≡ bufferRange (kernel (now (state .entry))) (b .0) ⌝ }
 {
@@ -162,23 +159,7 @@ fn pool_range(state: &[u32], p: PoolNumber) -> bool
     unused | used
 }
 
-// The same of every task, mutex, buffer and pool. Each number of a loop names an object, so no answer is given for want of one.
-pub(crate) fn tasks_in_range(state: &[u32]) -> bool
-    requires { ⌜ length (now state) ≡ wordCount ⌝ }
-    ensures { λ r. ⌜ r ≡ all (taskRange (kernel (now (state .entry)))) (upTo tasks) ⌝ }
-{
-    for n in 1..=TASKS {
-        let found = TaskNumber::from_word(n);
-        let MaybeTask::Task(t) = found else {
-            return false;
-        };
-        if !task_range(state, t) {
-            return false;
-        }
-    }
-    true
-}
-
+// The same of every mutex and every pool. Each number of a loop names an object, so no answer is given for want of one.
 pub(crate) fn mutexes_in_range(state: &[u32]) -> bool
     requires { ⌜ length (now state) ≡ wordCount ⌝ }
     ensures { λ r. ⌜ r ≡ all (mutexRange (kernel (now (state .entry)))) (upTo mutexes) ⌝ }
@@ -189,22 +170,6 @@ pub(crate) fn mutexes_in_range(state: &[u32]) -> bool
             return false;
         };
         if !mutex_range(state, m) {
-            return false;
-        }
-    }
-    true
-}
-
-pub(crate) fn buffers_in_range(state: &[u32]) -> bool
-    requires { ⌜ length (now state) ≡ wordCount ⌝ }
-    ensures { λ r. ⌜ r ≡ all (bufferRange (kernel (now (state .entry)))) (upTo buffers) ⌝ }
-{
-    for n in 1..=BUFFERS {
-        let found = BufferNumber::from_word(n);
-        let MaybeBuffer::Buffer(b) = found else {
-            return false;
-        };
-        if !buffer_range(state, b) {
             return false;
         }
     }

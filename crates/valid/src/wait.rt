@@ -1,16 +1,14 @@
 // 01, "Sound": what a task's wait has, and what it waits for. None's entries are seen to be 0 before these are called.
 use super::entry;
 use super::range::within;
-use model::number::MaybeTask;
 use model::number::TaskNumber;
-use model::sizes::TASKS;
 use state::task::GETTING;
 use state::task::LOCKING;
 use state::task::SENDING;
 ghost use mathlib.Core.Path.{_≡_};
 ghost use lib.ListN.{length};
-ghost use Rattle.model.specs.Sizes.{tasks, mutexes, buffers, pools};
-ghost use Rattle.model.specs.Lists.{_!_, all, upTo};
+ghost use Rattle.model.specs.Sizes.{mutexes, buffers, pools};
+ghost use Rattle.model.specs.Lists.{_!_};
 ghost use Rattle.model.specs.Valid.{Lists, mutexLists, bufferLists, poolLists, awaitable, argument, waitFields, lockingTask};
 ghost use Rattle.state.specs.Words.{wordCount, kernel};
 
@@ -21,7 +19,7 @@ const ENDLESS: u32 = 0xFFFF_FFFF;
 
 // "unused entries as in the fresh bench": a sender's wait has the length of its message, 1 to the buffer's maxmsz, and no other wait has
 // an argument.
-fn argument(state: &[u32], t: TaskNumber) -> bool
+pub(crate) fn argument(state: &[u32], t: TaskNumber) -> bool
     requires { ⌜ length (now state) ≡ wordCount ⌝ }
     requires { ⌜ Lists buffers (bufferLists (kernel (now state))) ⌝ }
     ensures { λ r. ⌜ r ≡ argument (kernel (now (state .entry))) (t .0) ⌝ }
@@ -53,7 +51,7 @@ fn awaited(state: &[u32], place: u32, object: u32) -> u32
 }
 
 // "waits with 1 or more ms left or endless", each for an object that exists; without a wait its fields are 0.
-fn wait_fields(state: &[u32], t: TaskNumber) -> bool
+pub(crate) fn wait_fields(state: &[u32], t: TaskNumber) -> bool
     requires { ⌜ length (now state) ≡ wordCount ⌝ }
     requires { ⌜ Lists mutexes (mutexLists (kernel (now state))) ⌝ }
     requires { ⌜ Lists buffers (bufferLists (kernel (now state))) ⌝ }
@@ -71,7 +69,7 @@ fn wait_fields(state: &[u32], t: TaskNumber) -> bool
 }
 
 // "no task waiting for a mutex it holds"; "no waiters at a free mutex".
-fn locking_task(state: &[u32], t: TaskNumber) -> bool
+pub(crate) fn locking_task(state: &[u32], t: TaskNumber) -> bool
     requires { ⌜ length (now state) ≡ wordCount ⌝ }
     requires { ⌜ Lists mutexes (mutexLists (kernel (now state))) ⌝ }
     ensures { λ r. ⌜ r ≡ lockingTask (kernel (now (state .entry))) (t .0) ⌝ }
@@ -81,58 +79,4 @@ fn locking_task(state: &[u32], t: TaskNumber) -> bool
     let holder = entry::holder(state, object);
     let n = t.word();
     (place != LOCKING) | (holder != n) & (holder != 0)
-}
-
-// The same of every task. Each number of a loop is a task's, so no answer is given for want of one.
-pub(crate) fn arguments(state: &[u32]) -> bool
-    requires { ⌜ length (now state) ≡ wordCount ⌝ }
-    requires { ⌜ Lists buffers (bufferLists (kernel (now state))) ⌝ }
-    ensures { λ r. ⌜ r ≡ all (argument (kernel (now (state .entry)))) (upTo tasks) ⌝ }
-{
-    for n in 1..=TASKS {
-        let found = TaskNumber::from_word(n);
-        let MaybeTask::Task(t) = found else {
-            return false;
-        };
-        if !argument(state, t) {
-            return false;
-        }
-    }
-    true
-}
-
-pub(crate) fn waits(state: &[u32]) -> bool
-    requires { ⌜ length (now state) ≡ wordCount ⌝ }
-    requires { ⌜ Lists mutexes (mutexLists (kernel (now state))) ⌝ }
-    requires { ⌜ Lists buffers (bufferLists (kernel (now state))) ⌝ }
-    requires { ⌜ Lists pools (poolLists (kernel (now state))) ⌝ }
-    ensures { λ r. ⌜ r ≡ all (waitFields (kernel (now (state .entry)))) (upTo tasks) ⌝ }
-{
-    for n in 1..=TASKS {
-        let found = TaskNumber::from_word(n);
-        let MaybeTask::Task(t) = found else {
-            return false;
-        };
-        if !wait_fields(state, t) {
-            return false;
-        }
-    }
-    true
-}
-
-pub(crate) fn locking_tasks(state: &[u32]) -> bool
-    requires { ⌜ length (now state) ≡ wordCount ⌝ }
-    requires { ⌜ Lists mutexes (mutexLists (kernel (now state))) ⌝ }
-    ensures { λ r. ⌜ r ≡ all (lockingTask (kernel (now (state .entry)))) (upTo tasks) ⌝ }
-{
-    for n in 1..=TASKS {
-        let found = TaskNumber::from_word(n);
-        let MaybeTask::Task(t) = found else {
-            return false;
-        };
-        if !locking_task(state, t) {
-            return false;
-        }
-    }
-    true
 }

@@ -3,12 +3,10 @@
 use super::entry;
 use message::room::fits;
 use model::number::BufferNumber;
-use model::number::MaybeBuffer;
 use model::number::MaybePool;
 use model::number::MaybeTask;
 use model::number::PoolNumber;
 use model::number::TaskNumber;
-use model::sizes::BUFFERS;
 use model::sizes::TASKS;
 use queue::front::front;
 use state::task::GETTING;
@@ -53,7 +51,7 @@ fn none_free(state: &[u32], n: u32) -> bool
 }
 
 // "no waiters at [..] a pool with free blocks".
-fn getting_task(state: &[u32], t: TaskNumber) -> bool
+pub(crate) fn getting_task(state: &[u32], t: TaskNumber) -> bool
     requires { ⌜ length (now state) ≡ wordCount ⌝ }
     requires { ⌜ Lists pools (poolLists (kernel (now state))) ⌝ }
     ensures { λ r. ⌜ r ≡ gettingTask (kernel (now (state .entry))) (t .0) ⌝ }
@@ -90,7 +88,7 @@ fn no_senders(state: &[u32], b: u32) -> bool
 }
 
 // "no receivers beside messages or senders".
-fn receiving_task(state: &[u32], t: TaskNumber) -> bool
+pub(crate) fn receiving_task(state: &[u32], t: TaskNumber) -> bool
     requires { ⌜ length (now state) ≡ wordCount ⌝ }
     requires { ⌜ Lists buffers (bufferLists (kernel (now state))) ⌝ }
     ensures { λ r. ⌜ r ≡ receivingTask (kernel (now (state .entry))) (t .0) ⌝ }
@@ -102,7 +100,7 @@ fn receiving_task(state: &[u32], t: TaskNumber) -> bool
 }
 
 // "no first sender that fits".
-fn first_sender(state: &[u32], b: BufferNumber) -> bool
+pub(crate) fn first_sender(state: &[u32], b: BufferNumber) -> bool
     requires { ⌜ length (now state) ≡ wordCount ⌝ }
     ensures { λ r. ⌜ r ≡ firstSender (kernel (now (state .entry))) (b .0) ⌝ }
 {
@@ -114,55 +112,4 @@ fn first_sender(state: &[u32], b: BufferNumber) -> bool
     let bufsz = state::buffer::bufsz(state, b);
     let length = state::task::argument(state, t);
     !fits(used, bufsz, length)
-}
-
-// The same of every task and every buffer. Each number of a loop names an object, so no answer is given for want of one.
-pub(crate) fn getting_tasks(state: &[u32]) -> bool
-    requires { ⌜ length (now state) ≡ wordCount ⌝ }
-    requires { ⌜ Lists pools (poolLists (kernel (now state))) ⌝ }
-    ensures { λ r. ⌜ r ≡ all (gettingTask (kernel (now (state .entry)))) (upTo tasks) ⌝ }
-{
-    for n in 1..=TASKS {
-        let found = TaskNumber::from_word(n);
-        let MaybeTask::Task(t) = found else {
-            return false;
-        };
-        if !getting_task(state, t) {
-            return false;
-        }
-    }
-    true
-}
-
-pub(crate) fn receiving_tasks(state: &[u32]) -> bool
-    requires { ⌜ length (now state) ≡ wordCount ⌝ }
-    requires { ⌜ Lists buffers (bufferLists (kernel (now state))) ⌝ }
-    ensures { λ r. ⌜ r ≡ all (receivingTask (kernel (now (state .entry)))) (upTo tasks) ⌝ }
-{
-    for n in 1..=TASKS {
-        let found = TaskNumber::from_word(n);
-        let MaybeTask::Task(t) = found else {
-            return false;
-        };
-        if !receiving_task(state, t) {
-            return false;
-        }
-    }
-    true
-}
-
-pub(crate) fn first_senders(state: &[u32]) -> bool
-    requires { ⌜ length (now state) ≡ wordCount ⌝ }
-    ensures { λ r. ⌜ r ≡ all (firstSender (kernel (now (state .entry)))) (upTo buffers) ⌝ }
-{
-    for n in 1..=BUFFERS {
-        let found = BufferNumber::from_word(n);
-        let MaybeBuffer::Buffer(b) = found else {
-            return false;
-        };
-        if !first_sender(state, b) {
-            return false;
-        }
-    }
-    true
 }

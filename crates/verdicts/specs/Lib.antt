@@ -1,2 +1,1 @@
-pub mod StandIn
 pub mod Words

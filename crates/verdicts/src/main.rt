@@ -1,7 +1,6 @@
 // Reads lent states from standard input and writes for each a line that says whether it is valid. The independent
 // program in reference/ makes the states and tells the same.
 mod frame;
-mod stand_in;
 mod words;
 
 // A proved loop has to end, and nothing says that the input does. So the loop counts its turns down, from a number

@@ -1,11 +1,11 @@
 // Words from bytes, and the verdict on a lent state that comes as bytes.
-use super::stand_in::is_valid;
+use valid::is_valid;
 ghost use mathlib.Core.Path.{_≡_};
 ghost use Prim.Native.Nat.{_+_, _*_, _≤_};
 ghost use lib.ListN.{length};
 ghost use Rattle.model.specs.Code.{number4};
 ghost use Rattle.verdicts.specs.Words.{wordAt, wordsOf};
-ghost use Rattle.verdicts.specs.StandIn.{standIn};
+ghost use Rattle.valid.specs.Lent.{isValid};
 
 fn number(a: u8, b: u8, c: u8, d: u8) -> u32
     ensures { λ r. ⌜ r ≡ number4 a b c d ⌝ }
@@ -36,7 +36,7 @@ fn fill(words: &mut [u32], bytes: &[u8])
 pub(crate) fn verdict(area: &mut [u32], bytes: &[u8], n: usize, store: &[u8], outbox: &[u8]) -> bool
     requires { ⌜ n ≤ length (now area) ⌝ }
     requires { ⌜ 4 * n ≤ length (now bytes) ⌝ }
-    ensures { λ r. ⌜ r ≡ standIn (wordsOf n (now (bytes .entry))) (now (store .entry)) (now (outbox .entry)) ⌝ }
+    ensures { λ r. ⌜ r ≡ isValid (wordsOf n (now (bytes .entry))) (now (store .entry)) (now (outbox .entry)) ⌝ }
 {
     fill(&mut area[0..n], bytes);
     is_valid(&area[0..n], store, outbox)

@@ -10,7 +10,7 @@ use Rattle.model.specs.Sizes.{tasks}
 use Rattle.model.proofs.NumberLaws.{task-there, task-none}
 use Rattle.state.specs.Words.{kernel}
 use Rattle.valid.specs.Arrivals.{standsOnce}
-use Rattle.valid.specs.Loops.{Asked, ask-more, ask-stop, ask-never, ask-done}
+use Rattle.model.proofs.Loops.{Asked, ask-more, ask-stop, ask-never, ask-done}
 use Rattle.valid.proofs.arrival.each_stands_once.Statement.{statement}
 use Rattle.valid.proofs.arrival.each_stands_once.Tie as tie
 

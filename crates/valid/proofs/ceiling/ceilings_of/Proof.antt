@@ -10,7 +10,7 @@ use Rattle.model.specs.Sizes.{mutexes}
 use Rattle.model.specs.Valid.{ceiling}
 use Rattle.model.proofs.NumberLaws.{mutex-there, mutex-none}
 use Rattle.state.specs.Words.{kernel}
-use Rattle.valid.specs.Loops.{Asked, ask-more, ask-stop, ask-never, ask-done}
+use Rattle.model.proofs.Loops.{Asked, ask-more, ask-stop, ask-never, ask-done}
 use Rattle.valid.proofs.ceiling.ceilings_of.Statement.{statement}
 use Rattle.valid.proofs.ceiling.ceilings_of.Tie as tie
 

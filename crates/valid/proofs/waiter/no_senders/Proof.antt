@@ -9,7 +9,7 @@ use borrow.Author.Tests.{not-true, not-false}
 use Rattle.model.specs.Sizes.{tasks}
 use Rattle.model.proofs.NumberLaws.{task-there, task-none}
 use Rattle.state.specs.Words.{kernel}
-use Rattle.valid.specs.Loops.{Asked, ask-more, ask-stop, ask-never, ask-done}
+use Rattle.model.proofs.Loops.{Asked, ask-more, ask-stop, ask-never, ask-done}
 use Rattle.valid.specs.Waiters.{noSender}
 use Rattle.valid.proofs.waiter.no_senders.Statement.{statement}
 use Rattle.valid.proofs.waiter.no_senders.Tie as tie

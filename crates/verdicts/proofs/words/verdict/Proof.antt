@@ -4,7 +4,7 @@ use native.Mathlib.Omega.{arith}
 use mathlib.Core.List.{List}
 use mathlib.Core.Path.{_∙_, ap}
 use Rattle.verdicts.specs.Words.{front}
-use Rattle.verdicts.specs.StandIn.{standIn}
+use Rattle.valid.specs.Lent.{isValid}
 use borrow.Author.Needs.{needs}
 use Rattle.verdicts.proofs.words.verdict.Statement.{statement}
 use Rattle.verdicts.proofs.words.verdict.Tie as tie
@@ -42,7 +42,7 @@ returns c =
     let start = filled .before .before .before .before .before .before in
     let a = start .args in
     let e = front (a .n) (a .area .now) _ (a .bytes .now) (omega arith) (filled .fill .ensures) in
-    c .is-valid .ensures ∙ ap (λ (w : List ℕ). standIn w (a .store .now) (a .outbox .now)) e
+    c .is-valid .ensures ∙ ap (λ (w : List ℕ). isValid w (a .store .now) (a .outbox .now)) e
 
 pub verdict-spec : {M : Type 1} → statement M
 verdict-spec =

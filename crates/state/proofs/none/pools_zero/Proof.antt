@@ -1,0 +1,24 @@
+-- `pools_zero` meets its contract: entry 0 of each list is read. Assumes nothing.
+use native.Mathlib.Omega.{arith}
+use mathlib.Core.Path.{_≡_, _∙_}
+use mathlib.Core.List.{[]}
+use lib.ListN.{length, getD}
+use Prim.Native.Nat.{ℕ}
+use Rattle.model.specs.Sizes.{pools}
+use Rattle.model.specs.Valid.{poolLists}
+use Rattle.state.specs.Words.{kernel, sizes, fields, fromFields, sized, size-of}
+use Rattle.state.specs.Field as field
+use Rattle.state.specs.Zero.{told, entry-zero}
+use Rattle.state.proofs.none.pools_zero.Statement.{statement}
+use Rattle.state.proofs.none.pools_zero.Tie as tie
+
+returns : tie.Need-returns
+unfolding kernel sizes fields fromFields
+returns c =
+    let w = c .before .before .before .before .before .args .state .now in
+    let long = size-of (kernel w) (sized w (c .before .before .before .before .before .pre)) in
+    rw (c .zero4 .ensures ∙ entry-zero w field.size, c .before .zero3 .ensures ∙ entry-zero w field.count, c .before .before .zero2 .ensures ∙ entry-zero w field.poolAttribute, c .before .before .before .zero .ensures ∙ entry-zero w field.poolExists) (told pools (poolLists (kernel w)) (long field.poolExists, (long field.poolAttribute, (long field.count, (long field.size, tt)))))
+
+pub pools-zero-spec : {M : Type 1} → statement M
+unfolding sizes
+pools-zero-spec = tie.close (tie.spec (λ c κs. omega arith) (λ c κs. omega arith) (λ c κs. omega arith) (λ c κs. omega arith) returns)
