@@ -5,6 +5,7 @@
 each whether it is valid; the program of the crate `verdicts` reads them and tells the same, verdict by verdict. Also, that a frame
 that is cut or too long ends the run. Needs rt and cargo. Exit status 0 if every verdict is the same, 1 if one differs."""
 import pathlib
+import re
 import struct
 import subprocess
 import sys
@@ -46,10 +47,12 @@ def frames_of(data):
 
 
 def compare(folder, seed, count):
-    """States, valid ones among them, and the numbers of those on which the two differ."""
+    """States, those that are not as a script left them, valid ones, and the numbers of those on which the two differ."""
     frames, verdicts = folder / "frames", folder / "verdicts"
     made = [STATES, str(seed), str(count), frames, verdicts, "--each-clause", str(EACH)]
-    subprocess.run(made, check=True, stderr=subprocess.DEVNULL)
+    counts = subprocess.run(made, check=True, stderr=subprocess.PIPE, text=True).stderr
+    found = re.search(r"^Valid: (\d+) states", counts)
+    untouched = int(found[1]) if found else 0
     expected, got = verdicts.read_bytes().split(b"\n"), judged(frames).split(b"\n")
     states = len(expected) - 1
     differ = [i for i in range(states) if i >= len(got) or got[i] != expected[i]]
@@ -57,7 +60,7 @@ def compare(folder, seed, count):
         differ.append(states)
     for i in differ[:5]:
         print(f"seed {seed}, state {i}: expected {expected[i]}, got {got[i] if i < len(got) else None}")
-    return states, expected.count(b"1"), differ
+    return states, states - untouched, expected.count(b"1"), differ
 
 
 def refused(folder):
@@ -80,14 +83,16 @@ def main():
     count = int(sys.argv[1]) if len(sys.argv) > 1 else 120_000
     seed = int(sys.argv[2]) if len(sys.argv) > 2 else 1
     build()
-    states = valid = differ = 0
+    states = altered = valid = differ = 0
     with tempfile.TemporaryDirectory() as name:
         folder = pathlib.Path(name)
         while states < count:
-            made, good, wrong = compare(folder, seed, min(BATCH, count - states))
-            states, valid, differ, seed = states + made, valid + good, differ + len(wrong), seed + 1
+            made, other, good, wrong = compare(folder, seed, min(BATCH, count - states))
+            states, altered, valid, differ = states + made, altered + other, valid + good, differ + len(wrong)
+            seed += 1
         broken = refused(folder)
-    print(f"{states} states, {valid} of them valid, {differ} verdicts differ; frames that were not refused: {broken or 'none'}")
+    print(f"{states} states, {altered} of them altered, {valid} valid: {differ} verdicts differ")
+    print(f"frames that should be refused and were not: {broken or 'none'}")
     return 1 if differ or broken else 0
 
 

@@ -12,16 +12,17 @@ use crate::words::*;
 /// A clause of 01's paragraph "Sound".
 #[derive(Clone, Copy, PartialEq, Eq, PartialOrd, Ord, Hash, Debug)]
 pub enum Clause {
+    // "an area not exactly 1,024 or 512 bytes", and a state of another length.
     StateLength,
     StoreLength,
     OutboxLength,
-    // Entry 0 of every list stands for none and is zero.
+    // Entry 0 of every list stands for none and is zero: "unused entries as in the fresh bench".
     TaskEntryZero,
     MutexEntryZero,
     BufferEntryZero,
     PoolEntryZero,
     BlockEntryZero,
-    // Numbers in range.
+    // "numbers in range"
     TaskPlace,
     TaskInitial,
     TaskBase,
@@ -47,12 +48,13 @@ pub enum Clause {
     PoolFlagBeyond,
     /// Counts times sizes sum to at most 4,096.
     PoolSum,
-    // Unused entries as in the fresh kernel.
+    // "unused entries as in the fresh bench"
     TaskUnused,
     MutexUnused,
     BufferUnused,
     PoolUnused,
-    // Waits and queues.
+    // "each task in one line or dormant", "waits with 1 or more ms left or endless", "no two in a
+    // line having joined at once"
     /// A wait is at an object that exists.
     WaitObject,
     /// A waiting sender's length is 1 to maxmsz.
@@ -69,18 +71,24 @@ pub enum Clause {
     ArrivalEach,
     /// Zeros after the arrivals.
     ArrivalZeros,
-    // What holds between the objects.
+    /// "dormant ones hold no mutex"
     DormantHolder,
+    /// "priorities [..] as worked out afresh"
     PriorityAfresh,
+    // "no base above a held or awaited ceiling"
     BaseAboveHeld,
     BaseAboveAwaited,
+    /// "no task waiting for a mutex it holds"
     OwnMutex,
+    // "no waiters at a free mutex or a pool with free blocks"
     FreeMutex,
+    FreeBlock,
+    // "no receivers beside messages or senders"
     ReceiverBesideMessage,
     ReceiverBesideSender,
+    /// "no first sender that fits"
     SenderFits,
-    FreeBlock,
-    // Areas laid out.
+    // "areas laid out as above": packed messages, zeros behind each, and all other bytes zero.
     StoreMessages,
     StorePadding,
     StoreRest,

@@ -694,7 +694,7 @@ fn any_byte(random: &mut Random, old: u8) -> u8 {
 }
 
 /// Where each list begins, and where the last one ends.
-const LISTS: [usize; 24] = [
+const LISTS: [usize; 23] = [
     at::PLACE,
     at::OBJECT,
     at::ARGUMENT,
@@ -717,7 +717,6 @@ const LISTS: [usize; 24] = [
     at::COUNT,
     at::SIZE,
     at::FLAGS,
-    at::END,
     at::END,
 ];
 
@@ -750,7 +749,7 @@ fn change_word(state: &mut State, random: &mut Random) {
         u32::MAX - 1,
         u32::MAX,
     ];
-    let list = random.below(LISTS.len() - 2);
+    let list = random.below(LISTS.len() - 1);
     let (start, end) = (LISTS[list], LISTS[list + 1]);
     let at = start + random.below(end - start);
     let old = state.words[at];
