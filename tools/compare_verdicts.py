@@ -1,7 +1,7 @@
 #!/usr/bin/env python3
 """compare_verdicts.py [COUNT [SEED]]: hold the product's check of a lent state against the second program's.
 
-`reference/` makes COUNT states (120,000), valid ones, ones that fail a single clause of validity, and altered ones, and tells of
+`reference/` makes COUNT states (120,000), valid ones, ones at a boundary, ones that fail a single clause of validity, and altered ones, and tells of
 each whether it is valid; the program of the crate `verdicts` reads them and tells the same, verdict by verdict. Also, that a frame
 that is cut or too long ends the run. Needs rt and cargo. Exit status 0 if every verdict is the same, 1 if one differs."""
 import pathlib

@@ -55,8 +55,10 @@ pub enum Clause {
     PoolUnused,
     // "each task in one line or dormant", "waits with 1 or more ms left or endless", "no two in a
     // line having joined at once"
-    /// A wait is at an object that exists.
-    WaitObject,
+    // A wait is at an object that exists.
+    WaitMutex,
+    WaitBuffer,
+    WaitPool,
     /// A waiting sender's length is 1 to maxmsz.
     WaitLength,
     /// Object, length and milliseconds are 0 where there is none.
@@ -100,7 +102,7 @@ use Clause::*;
 type Holds = fn(&Lent) -> bool;
 
 /// Every clause that is about contents, and how it is told.
-const CONTENTS: [(Clause, Holds); 54] = [
+const CONTENTS: [(Clause, Holds); 56] = [
     (TaskEntryZero, |s| s.task_lists().iter().all(|list| list[0] == 0)),
     (MutexEntryZero, |s| s.mutex_lists().iter().all(|list| list[0] == 0)),
     (BufferEntryZero, |s| s.buffer_lists().iter().all(|list| list[0] == 0)),
@@ -138,7 +140,9 @@ const CONTENTS: [(Clause, Holds); 54] = [
         let unused = |p: usize| all_zero(s.pool_lists(), p) && zero(&s.pool_flags(p)[1..]);
         (1..PER_POOL).all(|p| s.pool_exists[p] != 0 || unused(p))
     }),
-    (WaitObject, |s| s.waiting().all(|t| s.place[t] > GETTING || s.awaits_something(t))),
+    (WaitMutex, |s| s.objects_exist(&[LOCKING], s.mutex_exists)),
+    (WaitBuffer, |s| s.objects_exist(&[SENDING, RECEIVING], s.buffer_exists)),
+    (WaitPool, |s| s.objects_exist(&[GETTING], s.pool_exists)),
     (WaitLength, |s| s.waiting().all(|t| s.place[t] != SENDING || s.length_in_range(t))),
     (NoWait, |s| s.live().all(|t| s.fields_without_wait(t))),
     (LeftSome, |s| s.waiting().all(|t| s.left[t] != 0)),
@@ -184,13 +188,16 @@ pub const CLAUSES: [Clause; 3 + CONTENTS.len()] = {
 };
 
 impl Clause {
-    /// The clauses that fail when this one fails and all others that can hold do: itself, and for
-    /// the current priorities' range one more. With bases and ceilings in range what is worked out
-    /// afresh is in range too, so a current priority out of range is never the one afresh.
-    pub fn fails_with(self) -> Vec<Clause> {
+    /// Whether the clauses that fail are as few as can be with this one: itself, and for the
+    /// current priorities' range one more. With bases and ceilings in range what is worked out
+    /// afresh is in range too, so a current priority out of range either is not the one afresh or
+    /// has a base out of range.
+    pub fn fails_alone(self, failing: &[Clause]) -> bool {
         match self {
-            TaskCurrent => vec![TaskCurrent, PriorityAfresh],
-            alone => vec![alone],
+            TaskCurrent => [[TaskBase, TaskCurrent], [TaskCurrent, PriorityAfresh]]
+                .iter()
+                .any(|f| f == failing),
+            alone => failing == [alone],
         }
     }
 }
@@ -298,13 +305,11 @@ impl Lent<'_> {
         self.arrivals.iter().map(|&word| word as usize).filter(|word| (1..PER_TASK).contains(word))
     }
 
-    fn awaits_something(&self, t: usize) -> bool {
-        let exists = match self.place[t] {
-            LOCKING => self.mutex_exists,
-            SENDING | RECEIVING => self.buffer_exists,
-            _ => self.pool_exists,
-        };
-        self.object[t] != 0 && exists.get(self.object[t] as usize).is_some_and(|&word| word != 0)
+    /// Whether every wait at one of these places is at an object that exists.
+    fn objects_exist(&self, places: &[u32], exists: &[u32]) -> bool {
+        let awaited = |t: usize| exists.get(self.object[t] as usize).is_some_and(|&word| word != 0);
+        let mut waiting = self.waiting().filter(|&t| places.contains(&self.place[t]));
+        waiting.all(|t| self.object[t] != 0 && awaited(t))
     }
 
     fn length_in_range(&self, t: usize) -> bool {

@@ -1,6 +1,7 @@
 //! Lent states for trying a validity check: valid ones sampled along busy scripts, ones that fail
 //! a single clause, and ones with words and bytes of any value.
 
+use crate::boundary::{reach, Boundary, BOUNDARIES};
 use crate::clauses::{afresh, failing, Clause, CLAUSES};
 use crate::generator::generate;
 use crate::kernel::Kernel;
@@ -30,7 +31,7 @@ impl State {
     }
 
     /// A kernel without any object.
-    fn empty() -> State {
+    pub(crate) fn empty() -> State {
         State { words: vec![0; WORDS], store: vec![0; STORE], outbox: vec![0; OUTBOX] }
     }
 
@@ -57,12 +58,12 @@ impl State {
         self.words[list + number]
     }
 
-    fn set(&mut self, list: usize, number: usize, word: u32) {
+    pub(crate) fn set(&mut self, list: usize, number: usize, word: u32) {
         self.words[list + number] = word;
     }
 
     /// Puts the current priorities right, as far as bases and mutexes are.
-    fn settle(&mut self) {
+    pub(crate) fn settle(&mut self) {
         let afresh = afresh(&self.words);
         for (t, &priority) in afresh.iter().enumerate().skip(1) {
             if self.word(at::PLACE, t) != ABSENT {
@@ -71,20 +72,20 @@ impl State {
         }
     }
 
-    fn is_waiting(&self, t: usize) -> bool {
+    pub(crate) fn is_waiting(&self, t: usize) -> bool {
         self.word(at::PLACE, t) >= LOCKING
     }
 
-    fn is_started(&self, t: usize) -> bool {
+    pub(crate) fn is_started(&self, t: usize) -> bool {
         self.word(at::PLACE, t) >= READY
     }
 
     /// Whether any task waits so at an object.
-    fn any(&self, place: u32, object: usize) -> bool {
+    pub(crate) fn any(&self, place: u32, object: usize) -> bool {
         self.waiters(place, object).next().is_some()
     }
 
-    fn waiters(&self, place: u32, object: usize) -> impl Iterator<Item = usize> + '_ {
+    pub(crate) fn waiters(&self, place: u32, object: usize) -> impl Iterator<Item = usize> + '_ {
         (1..PER_TASK).filter(move |&t| {
             self.word(at::PLACE, t) == place && self.word(at::OBJECT, t) == object as u32
         })
@@ -105,6 +106,8 @@ impl State {
 pub enum Kind {
     /// Along a busy script.
     Valid,
+    /// Valid, with a number at the end of its range.
+    AtBoundary(Boundary),
     /// This clause fails, and no other that can hold.
     Fails(Clause),
     /// Some words and bytes are replaced.
@@ -118,8 +121,12 @@ pub fn state(seed: u64, index: u64) -> (Kind, State) {
     let mut random = Random::new(seed ^ index.wrapping_mul(0xD134_2543_DE82_EF95));
     random.word();
     match random.below(100) {
-        0..=14 => (Kind::Valid, busy(&mut random)),
-        15..=39 => {
+        0..=9 => (Kind::Valid, busy(&mut random)),
+        10..=17 => {
+            let boundary = random.pick(&BOUNDARIES);
+            (Kind::AtBoundary(boundary), at_boundary(boundary, &mut random))
+        }
+        18..=39 => {
             let clause = random.pick(&CLAUSES);
             (Kind::Fails(clause), failing_alone(clause, &mut random))
         }
@@ -133,6 +140,13 @@ pub fn state_failing(clause: Clause, seed: u64, index: u64) -> State {
     let mut random = Random::new(seed ^ index.wrapping_mul(0xA076_1D64_78BD_642F));
     random.word();
     failing_alone(clause, &mut random)
+}
+
+/// State number `index` of a seed among the valid ones at a boundary.
+pub fn state_at_boundary(boundary: Boundary, seed: u64, index: u64) -> State {
+    let mut random = Random::new(seed ^ index.wrapping_mul(0xE703_7ED1_A0B4_28DB));
+    random.word();
+    at_boundary(boundary, &mut random)
 }
 
 /// A valid state with much going on: the busiest of a few along a script.
@@ -153,12 +167,24 @@ pub fn busy(random: &mut Random) -> State {
 
 /// A state at which exactly the wanted clauses fail: valid ones are altered until one does.
 fn failing_alone(clause: Clause, random: &mut Random) -> State {
-    let wanted = clause.fails_with();
     loop {
         let valid = if random.percent(2) { State::empty() } else { busy(random) };
         for _ in 0..8 {
             let mut state = valid.clone();
-            if alter(clause, &mut state, random).is_some() && state.failing() == wanted {
+            if alter(clause, &mut state, random).is_some() && clause.fails_alone(&state.failing()) {
+                return state;
+            }
+        }
+    }
+}
+
+/// A valid state at the boundary: valid ones are altered until one still is.
+fn at_boundary(boundary: Boundary, random: &mut Random) -> State {
+    loop {
+        let valid = busy(random);
+        for _ in 0..8 {
+            let mut state = valid.clone();
+            if reach(boundary, &mut state, random).is_some() && state.is_valid() {
                 return state;
             }
         }
@@ -166,7 +192,7 @@ fn failing_alone(clause: Clause, random: &mut Random) -> State {
 }
 
 /// Any of the numbers that fulfil the condition.
-fn any_of(
+pub(crate) fn any_of(
     random: &mut Random,
     numbers: std::ops::Range<usize>,
     wanted: impl Fn(usize) -> bool,
@@ -221,7 +247,7 @@ fn alter(clause: Clause, state: &mut State, random: &mut Random) -> Option<()> {
         TaskPlace | TaskInitial | TaskBase | TaskCurrent | PriorityAfresh => {
             return alter_task(clause, state, random)
         }
-        WaitObject | WaitLength | NoWait | LeftSome | LeftMost => {
+        WaitMutex | WaitBuffer | WaitPool | WaitLength | NoWait | LeftSome | LeftMost => {
             return alter_wait(clause, state, random)
         }
         ArrivalNumber | ArrivalStarted | ArrivalOnce | ArrivalEach | ArrivalZeros => {
@@ -270,7 +296,7 @@ const BUFFER_LISTS: [usize; 5] =
     [at::BUFFER_EXISTS, at::BUFFER_ATTRIBUTE, at::BUFSZ, at::MAXMSZ, at::USED];
 const POOL_LISTS: [usize; 4] = [at::POOL_EXISTS, at::POOL_ATTRIBUTE, at::COUNT, at::SIZE];
 
-fn row(pool: usize) -> usize {
+pub(crate) fn row(pool: usize) -> usize {
     at::FLAGS + pool * PER_BLOCK
 }
 
@@ -325,7 +351,11 @@ fn alter_task(clause: Clause, state: &mut State, random: &mut Random) -> Option<
         }
         Clause::TaskCurrent => {
             let t = any_of(random, 1..PER_TASK, live)?;
-            state.set(at::CURRENT, t, outside(random, limit));
+            let priority = outside(random, limit);
+            state.set(at::CURRENT, t, priority);
+            if random.percent(50) {
+                state.set(at::BASE, t, priority);
+            }
         }
         _ => {
             let t = any_of(random, 1..PER_TASK, live)?;
@@ -341,14 +371,20 @@ fn alter_task(clause: Clause, state: &mut State, random: &mut Random) -> Option<
 fn alter_wait(clause: Clause, state: &mut State, random: &mut Random) -> Option<()> {
     let waiting = any_of(random, 1..PER_TASK, |t| state.is_waiting(t));
     match clause {
-        Clause::WaitObject => {
-            let numbers = random.pick(&[BUFFERS, MUTEXES]) as u32;
+        Clause::WaitMutex | Clause::WaitBuffer | Clause::WaitPool => {
+            let (places, numbers): (&[u32], _) = match clause {
+                Clause::WaitMutex => (&[LOCKING], MUTEXES),
+                Clause::WaitBuffer => (&[SENDING, RECEIVING], BUFFERS),
+                _ => (&[GETTING], POOLS),
+            };
+            let waits = |t: usize| places.contains(&state.word(at::PLACE, t));
+            let t = any_of(random, 1..PER_TASK, waits)?;
             let object = match random.below(3) {
                 0 => 0,
-                1 => 1 + random.below(MUTEXES) as u32,
-                _ => beyond(random, numbers),
+                1 => 1 + random.below(numbers) as u32,
+                _ => beyond(random, numbers as u32),
             };
-            state.set(at::OBJECT, waiting?, object);
+            state.set(at::OBJECT, t, object);
             state.settle();
         }
         Clause::WaitLength => {
@@ -475,7 +511,12 @@ fn alter_buffer(clause: Clause, state: &mut State, random: &mut Random) -> Optio
 }
 
 /// Makes a ready task wait without end.
-fn make_wait(state: &mut State, random: &mut Random, place: u32, object: usize) -> Option<usize> {
+pub(crate) fn make_wait(
+    state: &mut State,
+    random: &mut Random,
+    place: u32,
+    object: usize,
+) -> Option<usize> {
     let t = any_of(random, 1..PER_TASK, |t| state.word(at::PLACE, t) == READY)?;
     state.set(at::PLACE, t, place);
     state.set(at::OBJECT, t, object as u32);
@@ -544,7 +585,7 @@ fn shuffle_arrivals(state: &mut State, random: &mut Random) {
 }
 
 /// Where each message of a buffer begins in the store.
-fn messages(state: &State, b: usize) -> Vec<usize> {
+pub(crate) fn messages(state: &State, b: usize) -> Vec<usize> {
     let (mut at, end) = ((b - 1) * STRETCH, (b - 1) * STRETCH + state.word(at::USED, b) as usize);
     let mut found = Vec::new();
     while at < end {

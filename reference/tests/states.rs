@@ -3,11 +3,12 @@
 use std::collections::BTreeMap;
 use std::process::{Command, Stdio};
 
+use reference::boundary::BOUNDARIES;
 use reference::check;
 use reference::clauses::{failing, Clause, CLAUSES};
 use reference::limits::*;
 use reference::random::Random;
-use reference::states::{busy, state, state_failing, Kind, State};
+use reference::states::{busy, state, state_at_boundary, state_failing, Kind, State};
 use reference::words::*;
 
 /// States that each clause is tried on.
@@ -16,18 +17,29 @@ const EACH: u64 = 24;
 #[test]
 fn every_clause_fails_alone() {
     for clause in CLAUSES {
-        let wanted = clause.fails_with();
         let mut states: Vec<State> = Vec::new();
         for index in 0..EACH {
             let state = state_failing(clause, 5, index);
-            assert_eq!(state.failing(), wanted);
+            let failing = state.failing();
+            assert!(clause.fails_alone(&failing), "{clause:?}: {failing:?}");
+            // Alone but for the current priorities' range, which only fails beside another.
+            assert_eq!(failing.len() == 1, clause != Clause::TaskCurrent);
             assert!(!state.is_valid(), "{clause:?}");
             states.push(state);
         }
         states.dedup();
         assert!(states.len() as u64 == EACH, "{clause:?}: the same state twice");
-        // Alone but for the current priorities' range, which only fails beside another.
-        assert_eq!(wanted.len() == 1, clause != Clause::TaskCurrent);
+    }
+}
+
+#[test]
+fn valid_at_every_boundary() {
+    for boundary in BOUNDARIES {
+        for index in 0..EACH {
+            let state = state_at_boundary(boundary, 5, index);
+            assert_eq!(state.failing(), [], "{boundary:?}");
+            assert!(state.is_valid(), "{boundary:?}");
+        }
     }
 }
 
@@ -70,10 +82,14 @@ fn clauses_agree_with_the_check() {
         assert_eq!(failing.is_empty(), state.is_valid(), "{kind:?} {failing:?}");
         // Bases and ceilings in range keep what is worked out afresh in range.
         assert_ne!(failing, [Clause::TaskCurrent]);
-        let kind = if let Kind::Fails(_) = kind { Kind::Fails(CLAUSES[0]) } else { kind };
+        let kind = match kind {
+            Kind::Fails(_) => Kind::Fails(CLAUSES[0]),
+            Kind::AtBoundary(_) => Kind::AtBoundary(BOUNDARIES[0]),
+            kind => kind,
+        };
         *counts.entry((kind, state.is_valid())).or_default() += 1;
     }
-    assert!(counts[&(Kind::Valid, true)] > 2_000);
+    assert!(counts[&(Kind::Valid, true)] > 1_500);
     assert!(counts[&(Kind::Changed, true)] > 1_000, "{counts:?}");
     assert!(counts[&(Kind::Changed, false)] > 5_000);
     assert!(counts[&(Kind::Noise, false)] > 500);
@@ -188,7 +204,7 @@ fn committed_states() {
     let made = std::env::temp_dir().join(format!("states-test-{}", std::process::id()));
     std::fs::create_dir_all(&made).unwrap();
     let status = Command::new(env!("CARGO_BIN_EXE_states"))
-        .args(["2026", "280"])
+        .args(["2026", "170"])
         .args([made.join("stdin"), made.join("stdout")])
         .args(["--each-clause", "4"])
         .stderr(Stdio::null())

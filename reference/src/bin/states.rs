@@ -5,14 +5,16 @@ use std::fs::File;
 use std::io::{self, BufWriter, Write};
 use std::process::ExitCode;
 
+use reference::boundary::BOUNDARIES;
 use reference::clauses::CLAUSES;
-use reference::states::{state, state_failing, Kind, State};
+use reference::states::{state, state_at_boundary, state_failing, Kind, State};
 
 const USAGE: &str = "usage: states SEED COUNT FILE_IN FILE_OUT [--each-clause N]
   SEED, COUNT       the states 0 to COUNT - 1 of that seed
   FILE_IN           gets a frame for each state
   FILE_OUT          gets a line for each state: 1 if it is valid, else 0
-  --each-clause N   puts N states for each clause of validity in front, which fail it alone";
+  --each-clause N   puts in front, for each clause of validity, N states that fail it alone, and
+                    for each boundary of a range N valid states at it";
 
 struct Options {
     seed: u64,
@@ -83,6 +85,12 @@ fn run(options: &Options) -> io::Result<()> {
         for index in 0..options.each_clause {
             let state = state_failing(clause, options.seed, index);
             writer.write(Kind::Fails(clause), &state)?;
+        }
+    }
+    for boundary in BOUNDARIES {
+        for index in 0..options.each_clause {
+            let state = state_at_boundary(boundary, options.seed, index);
+            writer.write(Kind::AtBoundary(boundary), &state)?;
         }
     }
     for index in 0..options.count {
