@@ -1,11 +1,14 @@
 //! The kernel in ordinary Rust: the test oracle, never the product.
 //!
 //! [`run_script`] runs a script; [`run_record`] runs one call on a lent state; [`check`] tells
-//! whether a lent state and its areas are valid; [`Kernel`] is the state in plain structs. The
-//! modules [`generator`], [`selfcheck`], [`ledger`] and [`tally`] serve the tests.
+//! whether a lent state and its areas are valid, [`clauses`] which clauses of that fail; [`Kernel`]
+//! is the state in plain structs. The modules [`generator`], [`states`], [`selfcheck`], [`ledger`]
+//! and [`tally`] serve the tests.
 
 #![forbid(unsafe_code)]
 
+pub mod boundary;
+pub mod clauses;
 mod effects;
 pub mod generator;
 pub mod kernel;
@@ -18,6 +21,7 @@ pub mod random;
 pub mod record;
 mod script;
 pub mod selfcheck;
+pub mod states;
 pub mod tally;
 mod valid;
 pub mod words;

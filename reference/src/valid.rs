@@ -21,36 +21,36 @@ pub fn check(words: &[u32], store: &[u8], outbox: &[u8]) -> bool {
 }
 
 /// A lent state taken apart into its lists.
-struct Lent<'a> {
-    place: &'a [u32],
-    object: &'a [u32],
-    argument: &'a [u32],
-    initial: &'a [u32],
-    base: &'a [u32],
-    current: &'a [u32],
-    left: &'a [u32],
-    arrivals: &'a [u32],
-    mutex_exists: &'a [u32],
-    mutex_attribute: &'a [u32],
-    ceiling: &'a [u32],
-    holder: &'a [u32],
-    buffer_exists: &'a [u32],
-    buffer_attribute: &'a [u32],
-    bufsz: &'a [u32],
-    maxmsz: &'a [u32],
-    used: &'a [u32],
-    pool_exists: &'a [u32],
-    pool_attribute: &'a [u32],
-    count: &'a [u32],
-    size: &'a [u32],
-    flags: &'a [u32],
-    store: &'a [u8],
-    outbox: &'a [u8],
+pub(crate) struct Lent<'a> {
+    pub(crate) place: &'a [u32],
+    pub(crate) object: &'a [u32],
+    pub(crate) argument: &'a [u32],
+    pub(crate) initial: &'a [u32],
+    pub(crate) base: &'a [u32],
+    pub(crate) current: &'a [u32],
+    pub(crate) left: &'a [u32],
+    pub(crate) arrivals: &'a [u32],
+    pub(crate) mutex_exists: &'a [u32],
+    pub(crate) mutex_attribute: &'a [u32],
+    pub(crate) ceiling: &'a [u32],
+    pub(crate) holder: &'a [u32],
+    pub(crate) buffer_exists: &'a [u32],
+    pub(crate) buffer_attribute: &'a [u32],
+    pub(crate) bufsz: &'a [u32],
+    pub(crate) maxmsz: &'a [u32],
+    pub(crate) used: &'a [u32],
+    pub(crate) pool_exists: &'a [u32],
+    pub(crate) pool_attribute: &'a [u32],
+    pub(crate) count: &'a [u32],
+    pub(crate) size: &'a [u32],
+    pub(crate) flags: &'a [u32],
+    pub(crate) store: &'a [u8],
+    pub(crate) outbox: &'a [u8],
 }
 
 impl<'a> Lent<'a> {
     /// `words` has its full length.
-    fn new(words: &'a [u32], store: &'a [u8], outbox: &'a [u8]) -> Lent<'a> {
+    pub(crate) fn new(words: &'a [u32], store: &'a [u8], outbox: &'a [u8]) -> Lent<'a> {
         let list = |at: usize, entries: usize| &words[at..at + entries];
         Lent {
             place: list(at::PLACE, PER_TASK),
@@ -147,7 +147,7 @@ impl<'a> Lent<'a> {
         }
     }
 
-    fn pool_flags(&self, p: usize) -> &[u32] {
+    pub(crate) fn pool_flags(&self, p: usize) -> &[u32] {
         &self.flags[p * PER_BLOCK..(p + 1) * PER_BLOCK]
     }
 
@@ -182,7 +182,7 @@ impl<'a> Lent<'a> {
         argument_in_range && (left == ENDLESS || (1..=i32::MAX as u32).contains(&left))
     }
 
-    fn is_started(&self, t: usize) -> bool {
+    pub(crate) fn is_started(&self, t: usize) -> bool {
         self.place[t] >= READY
     }
 
@@ -294,7 +294,7 @@ impl<'a> Lent<'a> {
     }
 }
 
-fn is_priority(number: u32) -> bool {
+pub(crate) fn is_priority(number: u32) -> bool {
     (1..=u32::from(PRIORITIES)).contains(&number)
 }
 
