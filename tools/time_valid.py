@@ -1,17 +1,14 @@
 #!/usr/bin/env python3
 """time_valid.py: processor time of one check of a busy valid state, optimised.
 
-In a copy of the repository a library crate exports `valid::is_valid`; a Rust program links it and calls it on the busiest of many
-valid states that `reference/` makes, in batches, each on its own processor time. Prints the median over all batches, and beside it
-that of the second program's check of the same states. Needs rt, cargo and rustc."""
-import pathlib
-import shutil
+A Rust program calls `valid::is_valid` on the busiest of many valid states that `reference/` makes, in batches, each on its own
+processor time. Prints the median over all batches, and beside it that of the second program's check of the same states."""
 import subprocess
 import sys
-import tempfile
 
 sys.dont_write_bytecode = True
-from compare_verdicts import ROOT, STATES, build
+from compare_verdicts import STATES
+from timing import run
 
 CRATE = """// The check of a lent state, for another language to call.
 #[no_mangle]
@@ -107,29 +104,11 @@ fn main() {
 """
 
 
-def main():
-    build()
-    with tempfile.TemporaryDirectory() as name:
-        folder = pathlib.Path(name)
-        copy = folder / "repository"
-        crate = copy / "crates/timing/src"
-        for part in ["crates", "target"]:
-            shutil.copytree(ROOT / part, copy / part)
-        crate.mkdir(parents=True)
-        (crate / "lib.rt").write_text(CRATE)
-        (copy / "crates.txt").write_text((ROOT / "crates.txt").read_text() + "timing: valid\n")
-        log = subprocess.run(["rt", "staticlib", "timing"], cwd=copy, capture_output=True, text=True)
-        if log.returncode != 0:
-            sys.exit(f"rt staticlib timing failed:\n{log.stdout[-2000:]}{log.stderr[-2000:]}")
-        (folder / "time.rs").write_text(PROGRAM)
-        release = ROOT / "reference/target/release"
-        link = ["-L", copy / "target/staticlib", "-l", "static=timing", "--extern", f"reference={release}/libreference.rlib"]
-        made = ["rustc", "--edition", "2021", "-C", "opt-level=3", folder / "time.rs", "-o", folder / "time", *link]
-        subprocess.run(made, check=True)
-        frames, verdicts = folder / "frames", folder / "verdicts"
-        subprocess.run([STATES, "2026", "10000", frames, verdicts], check=True, stderr=subprocess.DEVNULL)
-        subprocess.run([folder / "time", frames, verdicts], check=True)
+def inputs(folder):
+    frames, verdicts = folder / "frames", folder / "verdicts"
+    subprocess.run([STATES, "2026", "10000", frames, verdicts], check=True, stderr=subprocess.DEVNULL)
+    return [frames, verdicts]
 
 
 if __name__ == "__main__":
-    main()
+    run(CRATE, "valid", PROGRAM, inputs)
