@@ -1,6 +1,6 @@
 // Bytes that are looked at where they lie. What would lie beyond a slice's end is left out, so nothing is asked of the places.
+use message::copy::least;
 ghost use mathlib.Core.Path.{_≡_};
-ghost use Prim.Native.Nat.{min};
 ghost use lib.ListN.{take, drop};
 ghost use Rattle.model.specs.Lists.{allZero};
 
@@ -13,12 +13,6 @@ pub(crate) fn all_zero(bytes: &[u8]) -> bool
         zero = zero & (bytes[i] == 0);
     }
     zero
-}
-
-fn least(a: usize, b: usize) -> usize
-    ensures { λ r. ⌜ r ≡ min a b ⌝ }
-{
-    if a < b { a } else { b }
 }
 
 // The first n bytes, and those behind them.

@@ -6,7 +6,7 @@ ghost use lib.Seq.{sets};
 ghost use Rattle.model.specs.Lists.{zeros};
 ghost use Rattle.model.specs.Code.{bytes4};
 
-pub(crate) fn least(a: usize, b: usize) -> usize
+pub fn least(a: usize, b: usize) -> usize
     ensures { λ r. ⌜ r ≡ min a b ⌝ }
 {
     if a < b { a } else { b }

@@ -1,5 +1,5 @@
 // Messages: how they lie in a buffer's region and in the outbox, and the next one to be received.
-mod copy;
+pub mod copy;
 pub mod next;
 pub mod outbox;
 mod part;
