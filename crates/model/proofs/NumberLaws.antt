@@ -97,6 +97,11 @@ record Kind (A : Type 0) : Type 0 where
   none-word : word none ≡ 0
   some-word : (n : ℕ) → word (some n) ≡ n
 
+abbrev kindOf : {A : Type 0} (none : A) (some : ℕ → A) (there : A → Bool) (word : A → ℕ)
+    → there none ≡ false → ((n : ℕ) → there (some n) ≡ true) → word none ≡ 0 → ((n : ℕ) → word (some n) ≡ n) → Kind A
+kindOf none some there word a b c d =
+    record { none = none; some = some; there = there; word = word; none-there = a; some-there = b; none-word = c; some-word = d }
+
 module _ {A : Type 0} (kind : Kind A) where
   abbrev maybe : ℕ → A
   maybe n = cond (eqb n 0) (kind .none) (kind .some n)
@@ -144,17 +149,7 @@ taskThere mTask.the-variants.Nothing = false
 taskThere (mTask.the-variants.Task n) = true
 
 abbrev taskKind : Kind MaybeTask
-taskKind =
-    record {
-      none = mTask.the-variants.Nothing;
-      some = λ n. mTask.the-variants.Task (record { 0 = n });
-      there = taskThere;
-      word = taskWord;
-      none-there = refl;
-      some-there = λ n. refl;
-      none-word = refl;
-      some-word = λ n. refl;
-    }
+taskKind = kindOf mTask.the-variants.Nothing (λ n. mTask.the-variants.Task (record { 0 = n })) taskThere taskWord refl (λ n. refl) refl (λ n. refl)
 
 pub task-is : (n : ℕ) (x : TaskNumber) → maybeTask n ≡ mTask.the-variants.Task x → (x .0 ≡ n) × (n ≢ 0)
 unfolding maybeTask
@@ -179,17 +174,7 @@ mutexThere mMutex.the-variants.Nothing = false
 mutexThere (mMutex.the-variants.Mutex n) = true
 
 abbrev mutexKind : Kind MaybeMutex
-mutexKind =
-    record {
-      none = mMutex.the-variants.Nothing;
-      some = λ n. mMutex.the-variants.Mutex (record { 0 = n });
-      there = mutexThere;
-      word = mutexWord;
-      none-there = refl;
-      some-there = λ n. refl;
-      none-word = refl;
-      some-word = λ n. refl;
-    }
+mutexKind = kindOf mMutex.the-variants.Nothing (λ n. mMutex.the-variants.Mutex (record { 0 = n })) mutexThere mutexWord refl (λ n. refl) refl (λ n. refl)
 
 pub mutex-is : (n : ℕ) (x : MutexNumber) → maybeMutex n ≡ mMutex.the-variants.Mutex x → (x .0 ≡ n) × (n ≢ 0)
 unfolding maybeMutex
@@ -214,17 +199,7 @@ bufferThere mBuffer.the-variants.Nothing = false
 bufferThere (mBuffer.the-variants.Buffer n) = true
 
 abbrev bufferKind : Kind MaybeBuffer
-bufferKind =
-    record {
-      none = mBuffer.the-variants.Nothing;
-      some = λ n. mBuffer.the-variants.Buffer (record { 0 = n });
-      there = bufferThere;
-      word = bufferWord;
-      none-there = refl;
-      some-there = λ n. refl;
-      none-word = refl;
-      some-word = λ n. refl;
-    }
+bufferKind = kindOf mBuffer.the-variants.Nothing (λ n. mBuffer.the-variants.Buffer (record { 0 = n })) bufferThere bufferWord refl (λ n. refl) refl (λ n. refl)
 
 pub buffer-is : (n : ℕ) (x : BufferNumber) → maybeBuffer n ≡ mBuffer.the-variants.Buffer x → (x .0 ≡ n) × (n ≢ 0)
 unfolding maybeBuffer
@@ -249,17 +224,7 @@ poolThere mPool.the-variants.Nothing = false
 poolThere (mPool.the-variants.Pool n) = true
 
 abbrev poolKind : Kind MaybePool
-poolKind =
-    record {
-      none = mPool.the-variants.Nothing;
-      some = λ n. mPool.the-variants.Pool (record { 0 = n });
-      there = poolThere;
-      word = poolWord;
-      none-there = refl;
-      some-there = λ n. refl;
-      none-word = refl;
-      some-word = λ n. refl;
-    }
+poolKind = kindOf mPool.the-variants.Nothing (λ n. mPool.the-variants.Pool (record { 0 = n })) poolThere poolWord refl (λ n. refl) refl (λ n. refl)
 
 pub pool-is : (n : ℕ) (x : PoolNumber) → maybePool n ≡ mPool.the-variants.Pool x → (x .0 ≡ n) × (n ≢ 0)
 unfolding maybePool
