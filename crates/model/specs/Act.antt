@@ -36,11 +36,16 @@ wait w t q argument timeout =
     (recomputeIf (eqb (q .place) locking)
     (withLeft (withArgument (arrive (w .kernel) t q) t argument) t (millis timeout)))
 
--- A task's wait is over, whatever ended it: its fields are cleared, and a sender's bytes leave the outbox.
+-- A task's wait is over, whatever ended it: its fields are cleared,
+unfoldable pub leaveKernel : Kernel → ℕ → Kernel
+leaveKernel k t = withLeft (withArgument (withObject k t 0) t 0) t 0
+
+-- and a sender's bytes leave the outbox.
+unfoldable pub leaveOutbox : Kernel → List ℕ → ℕ → List ℕ
+leaveOutbox k outbox t = cond (eqb (k .tasks .place ! t) sending) (withOutboxMessage t outbox []) outbox
+
 unfoldable pub leave : World → ℕ → World
-leave w t =
-    withOutbox (withKernel w (withLeft (withArgument (withObject (w .kernel) t 0) t 0) t 0))
-    (cond (eqb (w .kernel .tasks .place ! t) sending) (withOutboxMessage t (w .outbox) []) (w .outbox))
+leave w t = withOutbox (withKernel w (leaveKernel (w .kernel) t)) (leaveOutbox (w .kernel) (w .outbox) t)
 
 -- A wait ends with a code and what it delivers: the task is ready again.
 unfoldable pub endWait : World → ℕ → ℤ → Delivery → World
@@ -109,3 +114,9 @@ drain w = foldl (λ v b. serve tasks (λ u. firstFits (u .kernel) b) (λ u. stor
 -- "A new object takes the smallest free number": the first whose entry is 0, 0 if there is none
 unfoldable pub unused : List ℕ → ℕ → ℕ
 unused entries last = firstWhere (λ n. eqb (entries ! n) 0) (upTo last)
+
+-- what has to unfold for the definitions of this file to compute
+unfoldable pub computeAct : Unit {0}
+unfolding arrive recomputeIf settled wait leaveKernel leaveOutbox leave endWait endWaits release releaseAll becomeDormant fits
+    storeMessage sendersMessage firstFits storeFirst drain unused
+computeAct = tt

@@ -2,64 +2,94 @@
 use Prim.Native.Nat.{ℕ, suc, pred}
 use mathlib.Core.Path.{_≡_, refl}
 use mathlib.Core.Bool.{true}
-use mathlib.Core.List.{List, [], _∷_, _++_, map}
+use mathlib.Core.List.{List, [], _∷_, _++_, map, foldl}
 use lib.IntN.{ℤ, pos}
 use Rattle.model.specs.declared.call.Call.{Call}
-use Rattle.model.specs.declared.call.Call.the-variants.{CreTsk, StaTsk, CreMtx, LocMtx, UnlMtx, CreMbf, SndMbf, RcvMbf, Tick}
+use Rattle.model.specs.declared.call.Call.the-variants.{CreTsk, StaTsk, CreMtx, LocMtx, UnlMtx, CreMbf, SndMbf, RcvMbf, CreMpf, GetMpf, Tick}
 use Rattle.model.specs.declared.call.Answer.{Answer}
 use Rattle.model.specs.declared.call.Answer.the-variants.{Code, Waits}
 use Rattle.model.specs.Sizes.{messageBytes, storeBytes, outboxBytes}
 use Rattle.model.specs.Lists.{_!_, upTo, zeros}
 use Rattle.model.specs.Code.{minus, E-OK, E-SYS, E-PAR, E-ILUSE, E-TMOUT}
-use Rattle.model.specs.Kernel.{Kernel, fresh}
-use Rattle.model.specs.World.{Lent}
+use Rattle.model.specs.Kernel.{fresh}
+use Rattle.model.specs.World.{Lent, Delivery, Nothing, Message, Block, running}
+use Rattle.model.specs.Message.{part}
 use Rattle.model.specs.Valid.{valid}
 use Rattle.model.specs.Step.{Outcome, step, freshLent}
 use Rattle.model.specs.Compute.{compute}
 
--- What is seen of a run: each call's answer, the ended waits with their codes, and numbers of the state at the end.
+-- What is seen of a run: each call's answer, the ended waits with their codes, what was delivered to whom, and numbers of what is lent at
+-- the end.
 pub record Seen : Type 0 where
   pub answers : List Answer
   pub ended : List (ℕ × ℤ)
+  pub delivered : List (ℕ × Delivery)
   pub numbers : List ℕ
 
--- A case: calls from the fresh state, the areas' lengths, and what must be seen; `watched` says which numbers of the state.
+-- A case: calls from the fresh state, the areas' lengths, the bytes that are handed over with each call, and what must be seen; `watched` says which
+-- numbers of what is lent.
 pub record Case : Type 0 where
   pub calls : List Call
   pub store : ℕ
   pub outbox : ℕ
-  pub watched : List (Kernel → ℕ)
+  pub bytes : List ℕ
+  pub watched : List (Lent → ℕ)
   pub seen : Seen
 
--- each send carries the bytes 1 to 32
-abbrev pub happens : List (Kernel → ℕ) → Lent → List Call → Seen
-happens watched x [] = record { answers = []; ended = []; numbers = map (λ f. f (x .kernel)) watched }
-happens watched x (c ∷ cs) =
-    let o = step x c (upTo messageBytes) in
-    let s = happens watched (o .lent) cs in
-    record { answers = o .answer ∷ s .answers; ended = map (λ e. (e .task, e .code)) (o .ended) ++ s .ended; numbers = s .numbers }
+abbrev pub deliveredTo : ℕ → Delivery → List (ℕ × Delivery)
+deliveredTo t Nothing = []
+deliveredTo t (Message m) = (t, Message m) ∷ []
+deliveredTo t (Block b) = (t, Block b) ∷ []
 
-unfoldable pub observed : Case → Seen
-observed c = happens (c .watched) (record { kernel = fresh; store = zeros (c .store); outbox = zeros (c .outbox) }) (c .calls)
+-- what an outcome delivers, first to the caller
+abbrev pub deliveries : ℕ → Outcome → List (ℕ × Delivery)
+deliveries caller o = foldl (λ ds e. ds ++ deliveredTo (e .task) (e .delivery)) (deliveredTo caller (o .delivery)) (o .ended)
 
-abbrev pub case : List Call → List Answer → List (ℕ × ℤ) → List (Kernel → ℕ) → List ℕ → Case
-case calls answers ended watched numbers =
+abbrev pub happens : List ℕ → List (Lent → ℕ) → Lent → List Call → Seen
+happens bytes watched x [] = record { answers = []; ended = []; delivered = []; numbers = map (λ f. f x) watched }
+happens bytes watched x (c ∷ cs) =
+    let o = step x c bytes in
+    let s = happens bytes watched (o .lent) cs in
     record {
-      calls = calls;
-      store = storeBytes;
-      outbox = outboxBytes;
-      watched = watched;
-      seen = record { answers = answers; ended = ended; numbers = numbers };
+      answers = o .answer ∷ s .answers;
+      ended = map (λ e. (e .task, e .code)) (o .ended) ++ s .ended;
+      delivered = deliveries (running (x .kernel)) o ++ s .delivered;
+      numbers = s .numbers;
     }
 
-abbrev pub current : ℕ → Kernel → ℕ
-current t k = k .tasks .current ! t
+unfoldable pub observed : Case → Seen
+observed c = happens (c .bytes) (c .watched) (record { kernel = fresh; store = zeros (c .store); outbox = zeros (c .outbox) }) (c .calls)
 
-abbrev pub used : ℕ → Kernel → ℕ
-used b k = k .buffers .used ! b
+abbrev pub seen : List Answer → List (ℕ × ℤ) → List (ℕ × Delivery) → List ℕ → Seen
+seen answers ended delivered numbers = record { answers = answers; ended = ended; delivered = delivered; numbers = numbers }
 
-abbrev pub ceilingOf : ℕ → Kernel → ℕ
-ceilingOf m k = k .mutexes .ceiling ! m
+abbrev pub caseWith : List ℕ → List Call → List (Lent → ℕ) → Seen → Case
+caseWith bytes calls watched s =
+    record { calls = calls; store = storeBytes; outbox = outboxBytes; bytes = bytes; watched = watched; seen = s }
+
+-- each send carries the bytes 1 to 32
+abbrev pub case : List Call → List (Lent → ℕ) → Seen → Case
+case = caseWith (upTo messageBytes)
+
+abbrev pub current : ℕ → Lent → ℕ
+current t x = x .kernel .tasks .current ! t
+
+abbrev pub used : ℕ → Lent → ℕ
+used b x = x .kernel .buffers .used ! b
+
+abbrev pub ceilingOf : ℕ → Lent → ℕ
+ceilingOf m x = x .kernel .mutexes .ceiling ! m
+
+-- a byte of the store, and a byte of a task's part of the outbox, counted from 0
+abbrev pub stored : ℕ → Lent → ℕ
+stored i x = x .store ! i
+
+abbrev pub waiting : ℕ → ℕ → Lent → ℕ
+waiting t i x = part messageBytes t (x .outbox) ! i
+
+-- the first n of the bytes that each send carries
+abbrev pub message : ℕ → Delivery
+message n = Message (upTo n)
 
 -- no timeout, and answers
 abbrev pub forever : ℤ
@@ -77,11 +107,13 @@ new n = Code (pos n)
 noMessage : Case
 noMessage =
     case (CreMbf (pos 0) (pos 256) (pos 32) ∷ SndMbf (pos 1) (minus 1) forever ∷ SndMbf (pos 1) (pos 0) forever ∷ [])
-    (new 1 ∷ Code E-PAR ∷ Code E-PAR ∷ []) [] (used 1 ∷ []) (0 ∷ [])
+    (used 1 ∷ []) (seen (new 1 ∷ Code E-PAR ∷ Code E-PAR ∷ []) [] [] (0 ∷ []))
 
 -- "1 stored at cost 8."
 oneByte : Case
-oneByte = case (CreMbf (pos 0) (pos 256) (pos 32) ∷ SndMbf (pos 1) (pos 1) forever ∷ []) (new 1 ∷ OK ∷ []) [] (used 1 ∷ []) (8 ∷ [])
+oneByte =
+    case (CreMbf (pos 0) (pos 256) (pos 32) ∷ SndMbf (pos 1) (pos 1) forever ∷ [])
+    (used 1 ∷ []) (seen (new 1 ∷ OK ∷ []) [] [] (8 ∷ []))
 
 -- "32 costs 36: bufsz 256 takes seven, the eighth waits."
 abbrev send32 : Call
@@ -92,7 +124,7 @@ eighthWaits =
     case
     (CreMbf (pos 0) (pos 256) (pos 32)
     ∷ send32 ∷ send32 ∷ send32 ∷ send32 ∷ send32 ∷ send32 ∷ send32 ∷ send32 ∷ [])
-    (new 1 ∷ OK ∷ OK ∷ OK ∷ OK ∷ OK ∷ OK ∷ OK ∷ Waits ∷ []) [] (used 1 ∷ []) (252 ∷ [])
+    (used 1 ∷ []) (seen (new 1 ∷ OK ∷ OK ∷ OK ∷ OK ∷ OK ∷ OK ∷ OK ∷ Waits ∷ []) [] [] (252 ∷ []))
 
 -- a task of less urgency than task 1, which runs whenever task 1 waits
 abbrev second : List Call
@@ -102,11 +134,22 @@ second = CreTsk (pos 9) ∷ StaTsk (pos 2) ∷ []
 tooSmall : Case
 tooSmall =
     case (second ++ CreMbf (pos 0) (pos 35) (pos 32) ∷ send32 ∷ RcvMbf (pos 1) forever ∷ [])
-    (new 2 ∷ OK ∷ new 1 ∷ Waits ∷ new 32 ∷ []) ((1, E-OK) ∷ []) (used 1 ∷ []) (0 ∷ [])
+    (used 1 ∷ []) (seen (new 2 ∷ OK ∷ new 1 ∷ Waits ∷ new 32 ∷ []) ((1, E-OK) ∷ []) ((2, message 32) ∷ []) (0 ∷ []))
 
--- "bufsz 36: stored."
+-- "bufsz 36: stored." "packed: length (4 bytes), bytes, zeros"
 justFits : Case
-justFits = case (CreMbf (pos 0) (pos 36) (pos 32) ∷ send32 ∷ []) (new 1 ∷ OK ∷ []) [] (used 1 ∷ []) (36 ∷ [])
+justFits =
+    case (CreMbf (pos 0) (pos 36) (pos 32) ∷ send32 ∷ [])
+    (used 1 ∷ stored 0 ∷ stored 1 ∷ stored 3 ∷ stored 4 ∷ stored 5 ∷ stored 35 ∷ [])
+    (seen (new 1 ∷ OK ∷ []) [] [] (36 ∷ 32 ∷ 0 ∷ 0 ∷ 1 ∷ 2 ∷ 32 ∷ []))
+
+-- "Receive: the oldest stored message"
+oldestFirst : Case
+oldestFirst =
+    case
+    (CreMbf (pos 0) (pos 256) (pos 32) ∷ SndMbf (pos 1) (pos 5) forever ∷ SndMbf (pos 1) (pos 2) forever ∷ RcvMbf (pos 1) forever ∷ [])
+    (used 1 ∷ stored 0 ∷ stored 4 ∷ stored 5 ∷ stored 6 ∷ stored 8 ∷ [])
+    (seen (new 1 ∷ OK ∷ OK ∷ new 5 ∷ []) [] ((1, message 5) ∷ []) (8 ∷ 2 ∷ 1 ∷ 2 ∷ 0 ∷ 0 ∷ []))
 
 -- "bufsz 0: always handed over": to a receiver that comes, and to one that waits
 handedOver : Case
@@ -114,33 +157,51 @@ handedOver =
     case
     (second ++ CreMbf (pos 0) (pos 0) (pos 32) ∷ SndMbf (pos 1) (pos 1) forever ∷ RcvMbf (pos 1) forever
     ∷ RcvMbf (pos 1) forever ∷ SndMbf (pos 1) (pos 3) forever ∷ [])
-    (new 2 ∷ OK ∷ new 1 ∷ Waits ∷ new 1 ∷ Waits ∷ OK ∷ []) ((1, E-OK) ∷ (1, pos 3) ∷ []) (used 1 ∷ []) (0 ∷ [])
+    (used 1 ∷ [])
+    (seen (new 2 ∷ OK ∷ new 1 ∷ Waits ∷ new 1 ∷ Waits ∷ OK ∷ []) ((1, E-OK) ∷ (1, pos 3) ∷ []) ((2, message 1) ∷ (1, message 3) ∷ []) (0 ∷ []))
+
+-- "Only the first msgsz of the 32 bytes count": with five bytes handed over the others are zeros
+fewBytes : Case
+fewBytes =
+    caseWith (upTo 5) (CreMbf (pos 0) (pos 256) (pos 32) ∷ SndMbf (pos 1) (pos 7) forever ∷ RcvMbf (pos 1) forever ∷ [])
+    (used 1 ∷ []) (seen (new 1 ∷ OK ∷ new 7 ∷ []) [] ((1, Message (upTo 5 ++ 0 ∷ 0 ∷ [])) ∷ []) (0 ∷ []))
 
 -- "maxmsz 32 taken, 33: -17."
 longestMessage : Case
 longestMessage =
-    case (CreMbf (pos 0) (pos 256) (pos 32) ∷ CreMbf (pos 0) (pos 256) (pos 33) ∷ []) (new 1 ∷ Code E-PAR ∷ []) [] [] []
+    case (CreMbf (pos 0) (pos 256) (pos 32) ∷ CreMbf (pos 0) (pos 256) (pos 33) ∷ [])
+    [] (seen (new 1 ∷ Code E-PAR ∷ []) [] [] [])
 
--- "Timeout -1 waits, -2: -17."
+-- "Timeout -1 waits, -2: -17": task 1 receives, task 2 locks, task 3 gets and task 4 sends, each first with -2 and then with -1
 timeouts : Case
 timeouts =
-    case (CreMbf (pos 0) (pos 256) (pos 32) ∷ RcvMbf (pos 1) (minus 2) ∷ RcvMbf (pos 1) (minus 1) ∷ [])
-    (new 1 ∷ Code E-PAR ∷ Waits ∷ []) [] [] []
+    case
+    (second ++ CreTsk (pos 10) ∷ StaTsk (pos 3) ∷ CreTsk (pos 11) ∷ StaTsk (pos 4) ∷ CreMbf (pos 0) (pos 0) (pos 1) ∷ CreMbf (pos 0) (pos 0) (pos 1)
+    ∷ CreMtx (pos 0) (pos 0) ∷ LocMtx (pos 1) forever ∷ CreMpf (pos 0) (pos 1) (pos 1) ∷ GetMpf (pos 1) forever
+    ∷ RcvMbf (pos 1) (minus 2) ∷ RcvMbf (pos 1) (minus 1) ∷ LocMtx (pos 1) (minus 2) ∷ LocMtx (pos 1) (minus 1)
+    ∷ GetMpf (pos 1) (minus 2) ∷ GetMpf (pos 1) (minus 1) ∷ SndMbf (pos 2) (pos 1) (minus 2) ∷ SndMbf (pos 2) (pos 1) (minus 1) ∷ [])
+    []
+    (seen
+    (new 2 ∷ OK ∷ new 3 ∷ OK ∷ new 4 ∷ OK ∷ new 1 ∷ new 2 ∷ new 1 ∷ OK ∷ new 1 ∷ OK ∷ Code E-PAR ∷ Waits ∷ Code E-PAR ∷ Waits
+    ∷ Code E-PAR ∷ Waits ∷ Code E-PAR ∷ Waits ∷ [])
+    [] ((1, Block 1) ∷ []) [])
 
 -- "Ceiling 16 taken, 17: -17, but with attributes 0 to 2 any ceiling is ignored and kept as 0."
 ceilings : Case
 ceilings =
     case
     (CreMtx (pos 3) (pos 16) ∷ CreMtx (pos 3) (pos 17) ∷ CreMtx (pos 0) (pos 5) ∷ CreMtx (pos 1) (pos 17) ∷ CreMtx (pos 2) (minus 1) ∷ [])
-    (new 1 ∷ Code E-PAR ∷ new 2 ∷ new 3 ∷ new 4 ∷ []) []
-    (ceilingOf 1 ∷ ceilingOf 2 ∷ ceilingOf 3 ∷ ceilingOf 4 ∷ []) (16 ∷ 0 ∷ 0 ∷ 0 ∷ [])
+    (ceilingOf 1 ∷ ceilingOf 2 ∷ ceilingOf 3 ∷ ceilingOf 4 ∷ [])
+    (seen (new 1 ∷ Code E-PAR ∷ new 2 ∷ new 3 ∷ new 4 ∷ []) [] [] (16 ∷ 0 ∷ 0 ∷ 0 ∷ []))
 
--- "Buffer attribute 0, free 20; A waits with 28 bytes, then B sends 4 without a timeout: B waits too." A is task 1, B task 2.
+-- "Buffer attribute 0, free 20; A waits with 28 bytes, then B sends 4 without a timeout: B waits too." A is task 1, B task 2. "A waiting sender's
+-- bytes lie at the start of its part of the bay. All other bytes are zero."
 noPassing : Case
 noPassing =
     case
     (second ++ CreMbf (pos 0) (pos 56) (pos 32) ∷ send32 ∷ SndMbf (pos 1) (pos 28) forever ∷ SndMbf (pos 1) (pos 4) forever ∷ [])
-    (new 2 ∷ OK ∷ new 1 ∷ OK ∷ Waits ∷ Waits ∷ []) [] (used 1 ∷ []) (36 ∷ [])
+    (used 1 ∷ waiting 1 0 ∷ waiting 1 27 ∷ waiting 1 28 ∷ waiting 2 0 ∷ waiting 2 3 ∷ waiting 2 4 ∷ [])
+    (seen (new 2 ∷ OK ∷ new 1 ∷ OK ∷ Waits ∷ Waits ∷ []) [] [] (36 ∷ 1 ∷ 28 ∷ 0 ∷ 1 ∷ 4 ∷ 0 ∷ []))
 
 -- ---- inheritance
 
@@ -159,14 +220,14 @@ chain = holding (pos 3) ++ LocMtx (pos 1) forever ∷ StaTsk (pos 3) ∷ LocMtx 
 
 chainRaises : Case
 chainRaises =
-    case chain (held ++ Waits ∷ OK ∷ Waits ∷ []) ((1, E-TMOUT) ∷ [])
-    (current 2 ∷ current 1 ∷ current 3 ∷ []) (3 ∷ 3 ∷ 3 ∷ [])
+    case chain (current 2 ∷ current 1 ∷ current 3 ∷ [])
+    (seen (held ++ Waits ∷ OK ∷ Waits ∷ []) ((1, E-TMOUT) ∷ []) [] (3 ∷ 3 ∷ 3 ∷ []))
 
 -- "C times out: A and B have 8."
 chainLowers : Case
 chainLowers =
-    case (chain ++ Tick ∷ []) (held ++ Waits ∷ OK ∷ Waits ∷ OK ∷ []) ((1, E-TMOUT) ∷ (3, E-TMOUT) ∷ [])
-    (current 2 ∷ current 1 ∷ current 3 ∷ []) (8 ∷ 8 ∷ 3 ∷ [])
+    case (chain ++ Tick ∷ []) (current 2 ∷ current 1 ∷ current 3 ∷ [])
+    (seen (held ++ Waits ∷ OK ∷ Waits ∷ OK ∷ []) ((1, E-TMOUT) ∷ (3, E-TMOUT) ∷ []) [] (8 ∷ 8 ∷ 3 ∷ []))
 
 -- "A (12) holds 1 and waits for 2, B (8) the reverse: both 8." C (2) waits for a message meanwhile.
 abbrev circle : List Call
@@ -177,19 +238,19 @@ abbrev inCircle : List Answer
 inCircle = held ++ OK ∷ Waits ∷ Waits ∷ Waits ∷ []
 
 circleStands : Case
-circleStands = case circle inCircle ((1, E-TMOUT) ∷ []) (current 2 ∷ current 1 ∷ []) (8 ∷ 8 ∷ [])
+circleStands = case circle (current 2 ∷ current 1 ∷ []) (seen inCircle ((1, E-TMOUT) ∷ []) [] (8 ∷ 8 ∷ []))
 
 -- "C (2) waits for 1: both 2."
 circleRaises : Case
 circleRaises =
-    case (circle ++ Tick ∷ LocMtx (pos 1) (pos 1) ∷ []) (inCircle ++ OK ∷ Waits ∷ []) ((1, E-TMOUT) ∷ (3, E-TMOUT) ∷ [])
-    (current 2 ∷ current 1 ∷ []) (2 ∷ 2 ∷ [])
+    case (circle ++ Tick ∷ LocMtx (pos 1) (pos 1) ∷ []) (current 2 ∷ current 1 ∷ [])
+    (seen (inCircle ++ OK ∷ Waits ∷ []) ((1, E-TMOUT) ∷ (3, E-TMOUT) ∷ []) [] (2 ∷ 2 ∷ []))
 
 -- "C times out: both 8."
 circleLowers : Case
 circleLowers =
-    case (circle ++ Tick ∷ LocMtx (pos 1) (pos 1) ∷ Tick ∷ []) (inCircle ++ OK ∷ Waits ∷ OK ∷ [])
-    ((1, E-TMOUT) ∷ (3, E-TMOUT) ∷ (3, E-TMOUT) ∷ []) (current 2 ∷ current 1 ∷ []) (8 ∷ 8 ∷ [])
+    case (circle ++ Tick ∷ LocMtx (pos 1) (pos 1) ∷ Tick ∷ []) (current 2 ∷ current 1 ∷ [])
+    (seen (inCircle ++ OK ∷ Waits ∷ OK ∷ []) ((1, E-TMOUT) ∷ (3, E-TMOUT) ∷ (3, E-TMOUT) ∷ []) [] (8 ∷ 8 ∷ []))
 
 -- ---- refusals
 
@@ -198,12 +259,19 @@ notHeld : Case
 notHeld =
     case
     (second ++ CreMtx (pos 2) (pos 0) ∷ LocMtx (pos 1) forever ∷ CreMbf (pos 0) (pos 0) (pos 1) ∷ RcvMbf (pos 1) forever ∷ UnlMtx (pos 1) ∷ [])
-    (new 2 ∷ OK ∷ new 1 ∷ OK ∷ new 1 ∷ Waits ∷ Code E-ILUSE ∷ []) [] (current 1 ∷ []) (8 ∷ [])
+    (current 1 ∷ []) (seen (new 2 ∷ OK ∷ new 1 ∷ OK ∷ new 1 ∷ Waits ∷ Code E-ILUSE ∷ []) [] [] (8 ∷ []))
 
 -- "Store of 1,023 or 1,025 bytes: -5."
 abbrev storeOf : ℕ → Answer → Case
 storeOf n answer =
-    record { calls = Tick ∷ []; store = n; outbox = outboxBytes; watched = []; seen = record { answers = answer ∷ []; ended = []; numbers = [] } }
+    record {
+      calls = Tick ∷ [];
+      store = n;
+      outbox = outboxBytes;
+      bytes = [];
+      watched = [];
+      seen = record { answers = answer ∷ []; ended = []; delivered = []; numbers = [] };
+    }
 
 -- ---- the table
 
@@ -214,7 +282,9 @@ table =
     ∷ eighthWaits
     ∷ tooSmall
     ∷ justFits
+    ∷ oldestFirst
     ∷ handedOver
+    ∷ fewBytes
     ∷ longestMessage
     ∷ timeouts
     ∷ ceilings
@@ -256,9 +326,17 @@ justFits-holds : observed justFits ≡ justFits .seen
 unfolding compute observed justFits
 justFits-holds = refl
 
+oldestFirst-holds : observed oldestFirst ≡ oldestFirst .seen
+unfolding compute observed oldestFirst
+oldestFirst-holds = refl
+
 handedOver-holds : observed handedOver ≡ handedOver .seen
 unfolding compute observed handedOver
 handedOver-holds = refl
+
+fewBytes-holds : observed fewBytes ≡ fewBytes .seen
+unfolding compute observed fewBytes
+fewBytes-holds = refl
 
 longestMessage-holds : observed longestMessage ≡ longestMessage .seen
 unfolding compute observed longestMessage
@@ -307,7 +385,7 @@ storeOf-holds = (refl, (refl, (refl, tt)))
 pub cases : AllHold table
 unfolding table
 cases =
-    (noMessage-holds, (oneByte-holds, (eighthWaits-holds, (tooSmall-holds, (justFits-holds, (handedOver-holds, (longestMessage-holds, (timeouts-holds, (ceilings-holds, (noPassing-holds, (chainRaises-holds, (chainLowers-holds, (circleStands-holds, (circleRaises-holds, (circleLowers-holds, (notHeld-holds, storeOf-holds))))))))))))))))
+    (noMessage-holds, (oneByte-holds, (eighthWaits-holds, (tooSmall-holds, (justFits-holds, (oldestFirst-holds, (handedOver-holds, (fewBytes-holds, (longestMessage-holds, (timeouts-holds, (ceilings-holds, (noPassing-holds, (chainRaises-holds, (chainLowers-holds, (circleStands-holds, (circleRaises-holds, (circleLowers-holds, (notHeld-holds, storeOf-holds))))))))))))))))))
 
 -- the fresh state is valid
 pub fresh-valid : valid freshLent ≡ true

@@ -50,6 +50,10 @@ E-TMOUT = minus 50
 abbrev pub E-DLT : ℤ
 E-DLT = minus 51
 
+-- one byte of a number: its least
+abbrev pub lowByte : ℕ → ℕ
+lowByte n = n % 256
+
 -- "Fields are signed 32-bit, least byte first": a number below 2 ^ 32 as four bytes, and four bytes as a number
 abbrev pub bytes4 : ℕ → List ℕ
 bytes4 n = n % 256 ∷ n / 256 % 256 ∷ n / 65536 % 256 ∷ n / 16777216 % 256 ∷ []

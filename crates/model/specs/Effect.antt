@@ -16,7 +16,7 @@ use Rattle.model.specs.Facts.{queue, readyQueue, absent, dormant, lockin
 use Rattle.model.specs.Queue.{byPriority}
 use Rattle.model.specs.Kernel.{Kernel, withArrivals, withPlace, withInitial, withBase, withCurrent, withLeft, withMutexExists, withMutexAttribute, withCeiling, withHolder, withBufferExists, withBufferAttribute, withBufsz, withMaxmsz, withUsed, withPoolExists, withPoolAttribute, withCount, withSize, withTaken, slot, arrived, facts}
 use Rattle.model.specs.World.{World, Delivery, Nothing, Message, Block, withKernel, withStore, withOutbox, queueOrder, queueFront, running, recompute}
-use Rattle.model.specs.Message.{cost, oldestLength, oldest, removed, region, withRegion, withOutboxMessage}
+use Rattle.model.specs.Message.{handed, cost, oldestLength, oldest, removed, region, withRegion, withOutboxMessage}
 use Rattle.model.specs.Act.{arrive, settled, wait, endWait, endWaits, release, becomeDormant, storeMessage, sendersMessage, drain, unused}
 use Rattle.model.specs.Refusal.{chosenTask, chosenBase, lockWaits, storable, freeBlock}
 
@@ -199,7 +199,7 @@ perform w (LocMtx mutex timeout) bytes = locMtx w (number mutex) timeout
 perform w (UnlMtx mutex) bytes = unlMtx w (number mutex)
 perform w (CreMbf attribute bufsz maxmsz) bytes = creMbf w (number attribute) (number bufsz) (number maxmsz)
 perform w (DelMbf buffer) bytes = delMbf w (number buffer)
-perform w (SndMbf buffer msgsz timeout) bytes = sndMbf w (number buffer) (take (number msgsz) bytes) timeout
+perform w (SndMbf buffer msgsz timeout) bytes = sndMbf w (number buffer) (take (number msgsz) (handed bytes)) timeout
 perform w (RcvMbf buffer timeout) bytes = rcvMbf w (number buffer) timeout
 perform w (CreMpf attribute count size) bytes = creMpf w (number attribute) (number count) (number size)
 perform w (DelMpf pool) bytes = delMpf w (number pool)
@@ -212,3 +212,9 @@ unfoldable pub effect : World → Call → List ℕ → Done
 effect w c bytes =
     let d = perform w c bytes in
     record { answer = d .answer; delivery = d .delivery; world = drain (d .world) }
+
+-- what has to unfold for the definitions of this file to compute
+unfoldable pub computeEffect : Unit {0}
+unfolding creTsk delTsk staTsk extTsk terTsk rejoin chgPri creMtx delMtx locMtx unlMtx creMbf delMbf sndMbf takeOldest rcvMbf
+    creMpf delMpf getMpf relMpf tickTask tick perform effect
+computeEffect = tt

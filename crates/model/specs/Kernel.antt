@@ -239,3 +239,11 @@ facts k =
       poolAttribute = numbered (k .pools .attribute);
       arrivals = λ q. select (standsIn k q) (k .arrivals);
     }
+
+-- what has to unfold for the definitions of this file to compute
+unfoldable pub computeKernel : Unit {0}
+unfolding withTasks withArrivals withMutexes withBuffers withPools withPlace withObject withArgument withInitial withBase
+    withCurrent withLeft withMutexExists withMutexAttribute withCeiling withHolder withBufferExists withBufferAttribute
+    withBufsz withMaxmsz withUsed withPoolExists withPoolAttribute withCount withSize withTaken withCurrents fresh others
+    departed arrived standsIn facts
+computeKernel = tt

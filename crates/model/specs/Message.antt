@@ -8,6 +8,14 @@ use Rattle.model.specs.Sizes.{regionBytes, messageBytes}
 use Rattle.model.specs.Lists.{_!_, zeros, padded}
 use Rattle.model.specs.Code.{bytes4, number4}
 
+-- "Only the first msgsz of the 32 bytes count": whatever bytes are handed over with a call count as its first 32, zeros behind them
+unfoldable pub handed : List ℕ → List ℕ
+handed bytes = padded messageBytes bytes
+
+-- Bytes put over an area from a place on. The area keeps its length: what would lie beyond its end is left out.
+unfoldable pub overwritten : List ℕ → ℕ → List ℕ → List ℕ
+overwritten area at bytes = take (length area) (take at area ++ bytes ++ drop (at + length bytes) area)
+
 -- "Cost in store: 4 plus the length rounded up to a multiple of 4"
 abbrev pub roundedUp : ℕ → ℕ
 roundedUp n = (n + 3) / 4 * 4
@@ -21,7 +29,7 @@ packed m = bytes4 (length m) ++ m ++ zeros (roundedUp (length m) - length m)
 
 -- A region (01: a buffer's stretch) with a message behind the bytes used; it keeps its length, whatever it holds.
 unfoldable pub appended : List ℕ → ℕ → List ℕ → List ℕ
-appended r used m = take (length r) (take used r ++ packed m ++ drop (used + length (packed m)) r)
+appended r used m = overwritten r used (packed m)
 
 -- "Stored oldest first": the first message of a region, its length, and the region without it
 unfoldable pub oldestLength : List ℕ → ℕ
@@ -33,12 +41,12 @@ oldest r = take (oldestLength r) (drop 4 r)
 unfoldable pub removed : List ℕ → List ℕ
 removed r = drop (cost (oldestLength r)) r ++ zeros (min (cost (oldestLength r)) (length r))
 
--- Part n of an area that is cut into parts of one size, counted from 1; and the area with that part exchanged.
+-- Part n of an area that is cut into parts of one size, counted from 1; and the area with bytes put over that part.
 unfoldable pub part : ℕ → ℕ → List ℕ → List ℕ
 part size n area = take size (drop (pred n * size) area)
 
 unfoldable pub withPart : ℕ → ℕ → List ℕ → List ℕ → List ℕ
-withPart size n area x = take (pred n * size) area ++ x ++ drop (n * size) area
+withPart size n area x = overwritten area (pred n * size) x
 
 -- "256 for each buffer, in order"
 unfoldable pub region : ℕ → List ℕ → List ℕ
@@ -53,3 +61,9 @@ outboxMessage t n outbox = take n (part messageBytes t outbox)
 
 unfoldable pub withOutboxMessage : ℕ → List ℕ → List ℕ → List ℕ
 withOutboxMessage t outbox m = withPart messageBytes t outbox (padded messageBytes m)
+
+-- what has to unfold for the definitions of this file to compute
+unfoldable pub computeMessage : Unit {0}
+unfolding handed overwritten cost packed appended oldestLength oldest removed part withPart region withRegion outboxMessage
+    withOutboxMessage
+computeMessage = tt

@@ -47,3 +47,8 @@ effective f t =
 -- every task's, by number
 unfoldable pub effectives : Facts → List ℕ
 effectives f = 0 ∷ map (effective f) (upTo tasks)
+
+-- what has to unfold for the definitions of this file to compute
+unfoldable pub computePriority : Unit {0}
+unfolding linked holderAwaited ownPriority effective effectives
+computePriority = tt

@@ -1,11 +1,12 @@
 -- 01, "The script and the log": a record is one byte of kind, then a body whose length the kind fixes. One table of kinds serves
 -- reader and writer.
-use Prim.Native.Nat.{ℕ, suc, _+_, _*_, _-_}
+use Prim.Native.Nat.{ℕ, suc, _+_, _*_, _-_, _^_, _<_}
 use mathlib.Core.Bool.{true, false}
 use mathlib.Core.List.{List, [], _∷_, _++_, map}
 use mathlib.Core.Option.{Option, none, some}
 use lib.ListN.{length, take, drop}
 use lib.IntN.{ℤ}
+use lib.Signed.{mag}
 use lib.Dec.{eqb, leb}
 use Rattle.model.specs.declared.call.Call.{Call}
 use Rattle.model.specs.declared.call.Call.the-variants.{CreTsk, DelTsk, StaTsk, ExtTsk, TerTsk, ChgPri, CreMtx, DelMtx, LocMtx, UnlMtx, CreMbf, DelMbf, SndMbf, RcvMbf, CreMpf, DelMpf, GetMpf, RelMpf, Tick}
@@ -51,6 +52,10 @@ kinds =
     ∷ row 0x40 0 0 (λ f. Tick)
     ∷ []
 
+-- one more than the last kind
+abbrev pub kindCount : ℕ
+kindCount = 0x41
+
 abbrev pub lookup : ℕ → List Row → Option Row
 lookup kind [] = none
 lookup kind (r ∷ rs) = elim (eqb kind (r .kind)) [ true ↦ some r | false ↦ lookup kind rs ]
@@ -91,8 +96,8 @@ messageHere [] = []
 messageHere (kind ∷ body) =
     elim (rowOf kind) [ none ↦ [] | some r ↦ take (r .body - 4 * r .fields) (drop (4 * r .fields) body) ]
 
-unfoldable pub messageAt : List ℕ → ℕ → List ℕ
-messageAt script at = messageHere (drop at script)
+unfoldable pub recordMessage : List ℕ → ℕ → List ℕ
+recordMessage script at = messageHere (drop at script)
 
 -- a call's kind and fields, as they are written
 unfoldable pub kindOf : Call → ℕ
@@ -137,6 +142,19 @@ fieldsOf (GetMpf pool timeout) = pool ∷ timeout ∷ []
 fieldsOf (RelMpf pool block) = pool ∷ block ∷ []
 fieldsOf Tick = []
 
+-- "Fields are signed 32-bit": numbers that all fit, and a call whose fields do. Every record that is read has such a call.
+abbrev pub Fit : List ℤ → Type 0
+Fit [] = Unit {0}
+Fit (z ∷ zs) = (mag z < 2 ^ 31) × Fit zs
+
+abbrev pub FieldsFit : Call → Type 0
+FieldsFit c = Fit (fieldsOf c)
+
 -- a record's bytes, from the call and the message bytes that it carries
 unfoldable pub recordBytes : Call → List ℕ → List ℕ
 recordBytes c message = kindOf c ∷ joined (map codeBytes (fieldsOf c)) ++ message
+
+-- what has to unfold for the definitions of this file to compute
+unfoldable pub computeRecord : Unit {0}
+unfolding kinds rowOf bodyLength field readHere readRecord messageHere recordMessage kindOf fieldsOf recordBytes
+computeRecord = tt

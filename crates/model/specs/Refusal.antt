@@ -1,5 +1,5 @@
 -- 01, "When the bench says no": for each call the conditions of the table, in its order; the first that applies refuses the
--- call. Order 1 stands in Step. The 32 message bytes are handed over too, whatever the call.
+-- call. Order 1 stands in Step. The message bytes are handed over too, whatever the call and however many they are.
 use Prim.Native.Nat.{ℕ, zero, suc, _+_, _*_}
 use mathlib.Core.Bool.{Bool, true, false, _&&_, _||_, not, cond}
 use mathlib.Core.List.{List, [], _∷_, map}
@@ -15,6 +15,7 @@ use Rattle.model.specs.Code.{E-CTX, E-RSATR, E-PAR, E-ID, E-NOEXS, E-OBJ
 use Rattle.model.specs.Facts.{queue, absent, dormant, locking, sending, receiving, getting, ceilinged}
 use Rattle.model.specs.Kernel.{Kernel, slot, standsIn}
 use Rattle.model.specs.World.{queueFront, headsQueue, running}
+use Rattle.model.specs.Message.{handed}
 use Rattle.model.specs.Act.{fits, unused}
 
 -- A cell of the table: its order, its code, and whether it applies.
@@ -246,10 +247,18 @@ refusals k (LocMtx mutex timeout) bytes = nobodyRuns k ∷ locMtxRefusals k mute
 refusals k (UnlMtx mutex) bytes = nobodyRuns k ∷ unlMtxRefusals k mutex
 refusals k (CreMbf attribute bufsz maxmsz) bytes = nobodyRuns k ∷ creMbfRefusals k attribute bufsz maxmsz
 refusals k (DelMbf buffer) bytes = nobodyRuns k ∷ deletionRefusals buffers (k .buffers .exists) buffer
-refusals k (SndMbf buffer msgsz timeout) bytes = nobodyRuns k ∷ sndMbfRefusals k buffer msgsz timeout bytes
+refusals k (SndMbf buffer msgsz timeout) bytes = nobodyRuns k ∷ sndMbfRefusals k buffer msgsz timeout (handed bytes)
 refusals k (RcvMbf buffer timeout) bytes = nobodyRuns k ∷ rcvMbfRefusals k buffer timeout
 refusals k (CreMpf attribute count size) bytes = nobodyRuns k ∷ creMpfRefusals k attribute count size
 refusals k (DelMpf pool) bytes = nobodyRuns k ∷ deletionRefusals pools (k .pools .exists) pool
 refusals k (GetMpf pool timeout) bytes = nobodyRuns k ∷ getMpfRefusals k pool timeout
 refusals k (RelMpf pool block) bytes = nobodyRuns k ∷ relMpfRefusals k pool block
 refusals k Tick bytes = []
+
+-- what has to unfold for the definitions of this file to compute
+unfoldable pub computeRefusal : Unit {0}
+unfolding nobodyRuns badAttribute badTimeout badField badNumber noSuch handedOut chosenTask chosenBase aboveCeiling noneFree
+    poolSum noTime lockWaits storable sendWaits receiveWaits freeBlock creTskRefusals dormantRefusals terTskRefusals
+    chgPriRefusals creMtxRefusals locMtxRefusals unlMtxRefusals creMbfRefusals sndMbfRefusals rcvMbfRefusals creMpfRefusals
+    getMpfRefusals relMpfRefusals deletionRefusals refusals
+computeRefusal = tt

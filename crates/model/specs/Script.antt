@@ -7,11 +7,10 @@ use lib.Dec.{leb, ltb}
 use Rattle.model.specs.declared.call.Read.{Read}
 use Rattle.model.specs.declared.call.Read.the-variants.{Record, Stop}
 use Rattle.model.specs.Sizes.{scriptBytes}
-use Rattle.model.specs.Code.{bytes4}
 use Rattle.model.specs.World.{Lent, running}
 use Rattle.model.specs.Step.{freshLent, Outcome, step}
-use Rattle.model.specs.Record.{readRecord, messageAt}
-use Rattle.model.specs.Log.{outcomeLog}
+use Rattle.model.specs.Record.{readRecord, recordMessage}
+use Rattle.model.specs.Log.{outcomeLog, stopBytes, tooLongBytes}
 use Rattle.model.specs.Compute.{compute}
 
 -- What a run leaves: its log, and the state and areas.
@@ -26,11 +25,7 @@ ran log x = record { log = log; lent = x }
 abbrev pub logThen : List ℕ → Ran → Ran
 logThen log r = ran (log ++ r .log) (r .lent)
 
--- "an unknown kind or a cut body logs 8E + its offset (4 bytes) and ends the log; earlier records have run"
-abbrev pub stopBytes : ℕ → List ℕ
-stopBytes offset = 0x8E ∷ bytes4 offset
-
--- at most n records, from a place of a script on
+-- at most n records, from a place of a script on; where the script stops, "earlier records have run"
 abbrev pub runFrom : ℕ → Lent → List ℕ → ℕ → Ran
 runFrom zero x script at = ran [] x
 runFrom (suc n) x script at =
@@ -40,7 +35,7 @@ runFrom (suc n) x script at =
           elim (readRecord script at) [
             | Stop offset ↦ ran (stopBytes offset) x
             | Record c next ↦
-                let o = step x c (messageAt script at) in
+                let o = step x c (recordMessage script at) in
                 logThen (outcomeLog (running (x .kernel)) o) (runFrom n (o .lent) script (next .at))
           ]
     ]
@@ -51,7 +46,7 @@ run x script = runFrom (length script) x script 0
 
 -- "A script above 16,384 bytes logs 8D alone. An empty one logs nothing."
 unfoldable pub runScript : Lent → List ℕ → Ran
-runScript x script = elim (ltb scriptBytes (length script)) [ true ↦ ran (0x8D ∷ []) x | false ↦ run x script ]
+runScript x script = elim (ltb scriptBytes (length script)) [ true ↦ ran tooLongBytes x | false ↦ run x script ]
 
 -- from the fresh state
 unfoldable pub scriptLog : List ℕ → List ℕ

@@ -52,3 +52,8 @@ validStep x c bytes =
 -- Order 1: "state not sound, or an area not exactly 1,024 or 512 bytes"; no task runs then
 unfoldable pub step : Lent → Call → List ℕ → Outcome
 step x c bytes = elim (valid x) [ true ↦ validStep x c bytes | false ↦ refused x E-SYS 0 ]
+
+-- what has to unfold for the definitions of this file to compute
+unfoldable pub computeStep : Unit {0}
+unfolding freshLent refused carriedOut validStep step
+computeStep = tt

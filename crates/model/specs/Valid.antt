@@ -317,3 +317,9 @@ valid x =
     && all (firstSender k) (upTo buffers)
     && all (regionLayout k (x .store)) (upTo buffers)
     && all (outboxPart k (x .outbox)) (upTo tasks)
+
+-- what has to unfold for the definitions of this file to compute
+unfoldable pub computeValid : Unit {0}
+unfolding taskRange mutexRange bufferRange poolRange blockFlag awaitable argument waitFields arrivals currentPriorities ceiling
+    lockingTask gettingTask receivingTask firstSender outboxPart valid
+computeValid = tt

@@ -72,3 +72,8 @@ running k = nextToRun (facts k) (k .tasks .current)
 -- "priorities settled": every current priority becomes the effective one
 unfoldable pub recompute : Kernel → Kernel
 recompute k = withCurrents k (effectives (facts k))
+
+-- what has to unfold for the definitions of this file to compute
+unfoldable pub computeWorld : Unit {0}
+unfolding withKernel withStore withOutbox withEnded queueOrder queueFront headsQueue running recompute
+computeWorld = tt

@@ -85,3 +85,11 @@ pub enum Read {
     Record { call: Call, next: Cursor },
     Stop { offset: usize },
 }
+
+// What comes of a script at a place: its record was answered, and the next one stands there; the script is over, at its end or where it
+// stops; or nothing was done, because the area for the log has another length than a log's.
+pub enum Progress {
+    Answered { answer: Answer, next: Cursor },
+    Over,
+    NoArea,
+}

@@ -1,16 +1,55 @@
-// The table of kinds: the body length of each kind of record, by the kind byte. Reader and writer cite it.
+// The kinds of records, and the table of body lengths by the kind byte. Reader and writer cite both.
 ghost use mathlib.Core.Path.{_≡_};
 ghost use Prim.Native.Nat.{_<_};
-ghost use Rattle.model.specs.Record.{bodyLength, bodyEntry};
+ghost use Rattle.model.specs.Record.{kindCount, bodyLength, bodyEntry};
+
+// The kind byte of each call.
+pub const CRE_TSK: u8 = 0x01;
+
+pub const DEL_TSK: u8 = 0x02;
+
+pub const STA_TSK: u8 = 0x03;
+
+pub const EXT_TSK: u8 = 0x04;
+
+pub const TER_TSK: u8 = 0x05;
+
+pub const CHG_PRI: u8 = 0x06;
+
+pub const CRE_MTX: u8 = 0x10;
+
+pub const DEL_MTX: u8 = 0x11;
+
+pub const LOC_MTX: u8 = 0x12;
+
+pub const UNL_MTX: u8 = 0x13;
+
+pub const CRE_MBF: u8 = 0x20;
+
+pub const DEL_MBF: u8 = 0x21;
+
+pub const SND_MBF: u8 = 0x22;
+
+pub const RCV_MBF: u8 = 0x23;
+
+pub const CRE_MPF: u8 = 0x30;
+
+pub const DEL_MPF: u8 = 0x31;
+
+pub const GET_MPF: u8 = 0x32;
+
+pub const REL_MPF: u8 = 0x33;
+
+pub const TICK: u8 = 0x40;
 
 // The entry of a kind that no record has.
 const NO: u8 = 255;
 
 // The table goes up to the last kind.
-const KINDS: u8 = 0x41;
+const KINDS: u8 = TICK + 1;
 
 const BODIES: [u8; KINDS as usize] = [
-    // cre_tsk, del_tsk, sta_tsk, ext_tsk, ter_tsk and chg_pri from 0x01 on
+    // CRE_TSK, DEL_TSK, STA_TSK, EXT_TSK, TER_TSK and CHG_PRI, behind kind 0
     NO,
     4,
     4,
@@ -27,7 +66,7 @@ const BODIES: [u8; KINDS as usize] = [
     NO,
     NO,
     NO,
-    // cre_mtx, del_mtx, loc_mtx and unl_mtx from 0x10 on
+    // CRE_MTX, DEL_MTX, LOC_MTX and UNL_MTX
     8,
     4,
     8,
@@ -44,7 +83,7 @@ const BODIES: [u8; KINDS as usize] = [
     NO,
     NO,
     NO,
-    // cre_mbf, del_mbf, snd_mbf and rcv_mbf from 0x20 on
+    // CRE_MBF, DEL_MBF, SND_MBF and RCV_MBF
     12,
     4,
     44,
@@ -61,7 +100,7 @@ const BODIES: [u8; KINDS as usize] = [
     NO,
     NO,
     NO,
-    // cre_mpf, del_mpf, get_mpf and rel_mpf from 0x30 on
+    // CRE_MPF, DEL_MPF, GET_MPF and REL_MPF
     12,
     4,
     8,
@@ -78,7 +117,7 @@ const BODIES: [u8; KINDS as usize] = [
     NO,
     NO,
     NO,
-    // tick is 0x40
+    // TICK
     0,
 ];
 
@@ -88,7 +127,7 @@ pub enum BodyLength {
 }
 
 fn entry(kind: usize) -> u8
-    requires { ⌜ kind < 0x41 ⌝ }
+    requires { ⌜ kind < kindCount ⌝ }
     ensures { λ r. ⌜ r ≡ bodyEntry (bodyLength kind) ⌝ }
 {
     BODIES[kind]

@@ -1,6 +1,9 @@
-// What every other crate speaks of: sizes, numbers of objects, calls, answers and the table of kinds.
+// What every other crate speaks of: sizes, numbers of objects, attributes, calls, answers, error codes and the table of kinds.
 // The definitions that contracts cite are in specs/.
+pub mod attribute;
+pub mod bytes;
 pub mod call;
+pub mod code;
 pub mod kind;
 pub mod number;
 pub mod sizes;

@@ -6,7 +6,8 @@ use super::sizes::POOLS;
 use super::sizes::TASKS;
 ghost use mathlib.Core.Path.{_≡_};
 ghost use Rattle.model.specs.Sizes.{tasks, mutexes, buffers, pools};
-ghost use Rattle.model.specs.Number.{fieldNumber, wordNumber, maybeTask, maybeMutex, maybeBuffer, maybePool};
+ghost use Rattle.model.specs.Code.{lowByte};
+ghost use Rattle.model.specs.Number.{fieldNumber, wordNumber, maybeTask, taskWord, maybeMutex, maybeBuffer, maybePool};
 
 pub struct TaskNumber(u32);
 
@@ -59,17 +60,24 @@ impl TaskNumber {
     pub fn from_field(n: i32) -> MaybeTask
         ensures { λ r. ⌜ r ≡ maybeTask (fieldNumber n tasks) ⌝ }
     {
-        TaskNumber::checked(field_number(n, TASKS))
+        TaskNumber::maybe(field_number(n, TASKS))
     }
 
     pub fn from_word(n: u32) -> MaybeTask
         ensures { λ r. ⌜ r ≡ maybeTask (wordNumber n tasks) ⌝ }
     {
-        TaskNumber::checked(word_number(n, TASKS))
+        TaskNumber::maybe(word_number(n, TASKS))
     }
 
-    // 0 names nothing; the callers have seen that the number is in range.
-    fn checked(n: u32) -> MaybeTask
+    // As a log has it, in one byte.
+    pub fn byte(self) -> u8
+        ensures { λ r. ⌜ r ≡ lowByte (self .0) ⌝ }
+    {
+        (self.0 % 256) as u8
+    }
+
+    // 0 names nothing; a caller has seen that the number is in range.
+    fn maybe(n: u32) -> MaybeTask
         ensures { λ r. ⌜ r ≡ maybeTask n ⌝ }
     {
         if n == 0 {
@@ -86,21 +94,33 @@ impl TaskNumber {
     }
 }
 
+impl MaybeTask {
+    // As a log has it, in one byte: 0 for none.
+    pub fn byte(self) -> u8
+        ensures { λ r. ⌜ r ≡ lowByte (taskWord self) ⌝ }
+    {
+        match self {
+            MaybeTask::Task(t) => t.byte(),
+            MaybeTask::Nothing => 0,
+        }
+    }
+}
+
 impl MutexNumber {
     pub fn from_field(n: i32) -> MaybeMutex
         ensures { λ r. ⌜ r ≡ maybeMutex (fieldNumber n mutexes) ⌝ }
     {
-        MutexNumber::checked(field_number(n, MUTEXES))
+        MutexNumber::maybe(field_number(n, MUTEXES))
     }
 
     pub fn from_word(n: u32) -> MaybeMutex
         ensures { λ r. ⌜ r ≡ maybeMutex (wordNumber n mutexes) ⌝ }
     {
-        MutexNumber::checked(word_number(n, MUTEXES))
+        MutexNumber::maybe(word_number(n, MUTEXES))
     }
 
-    // 0 names nothing; the callers have seen that the number is in range.
-    fn checked(n: u32) -> MaybeMutex
+    // 0 names nothing; a caller has seen that the number is in range.
+    fn maybe(n: u32) -> MaybeMutex
         ensures { λ r. ⌜ r ≡ maybeMutex n ⌝ }
     {
         if n == 0 {
@@ -121,17 +141,17 @@ impl BufferNumber {
     pub fn from_field(n: i32) -> MaybeBuffer
         ensures { λ r. ⌜ r ≡ maybeBuffer (fieldNumber n buffers) ⌝ }
     {
-        BufferNumber::checked(field_number(n, BUFFERS))
+        BufferNumber::maybe(field_number(n, BUFFERS))
     }
 
     pub fn from_word(n: u32) -> MaybeBuffer
         ensures { λ r. ⌜ r ≡ maybeBuffer (wordNumber n buffers) ⌝ }
     {
-        BufferNumber::checked(word_number(n, BUFFERS))
+        BufferNumber::maybe(word_number(n, BUFFERS))
     }
 
-    // 0 names nothing; the callers have seen that the number is in range.
-    fn checked(n: u32) -> MaybeBuffer
+    // 0 names nothing; a caller has seen that the number is in range.
+    fn maybe(n: u32) -> MaybeBuffer
         ensures { λ r. ⌜ r ≡ maybeBuffer n ⌝ }
     {
         if n == 0 {
@@ -152,17 +172,17 @@ impl PoolNumber {
     pub fn from_field(n: i32) -> MaybePool
         ensures { λ r. ⌜ r ≡ maybePool (fieldNumber n pools) ⌝ }
     {
-        PoolNumber::checked(field_number(n, POOLS))
+        PoolNumber::maybe(field_number(n, POOLS))
     }
 
     pub fn from_word(n: u32) -> MaybePool
         ensures { λ r. ⌜ r ≡ maybePool (wordNumber n pools) ⌝ }
     {
-        PoolNumber::checked(word_number(n, POOLS))
+        PoolNumber::maybe(word_number(n, POOLS))
     }
 
-    // 0 names nothing; the callers have seen that the number is in range.
-    fn checked(n: u32) -> MaybePool
+    // 0 names nothing; a caller has seen that the number is in range.
+    fn maybe(n: u32) -> MaybePool
         ensures { λ r. ⌜ r ≡ maybePool n ⌝ }
     {
         if n == 0 {

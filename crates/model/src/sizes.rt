@@ -10,6 +10,9 @@ pub const BUFFERS: u32 = 4;
 
 pub const POOLS: u32 = 4;
 
+// A queue has a place for every task.
+pub const PLACES: usize = TASKS as usize;
+
 // Priorities are 1 to this, 1 the most urgent.
 pub const PRIORITIES: u32 = 16;
 
@@ -35,3 +38,10 @@ pub const POOL_BYTES: u32 = 4096;
 pub const LOG_BYTES: usize = 512;
 
 pub const SCRIPT_BYTES: usize = 16384;
+
+// The most milliseconds that a timeout can ask for, and the word of the state for a wait without end: the largest word.
+pub const LONGEST: u32 = 0x7fff_ffff;
+
+pub const LARGEST_WORD: u32 = 0xffff_ffff;
+
+pub const ENDLESS: u32 = LARGEST_WORD;

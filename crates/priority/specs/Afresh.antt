@@ -15,7 +15,7 @@ use Rattle.model.specs.Priority.{ownPriority}
 use Rattle.model.specs.Kernel.{Kernel, facts, standsIn, withTasks, withCurrents}
 use Rattle.model.specs.World.{recompute}
 use Rattle.state.specs.Words.{wordCount, sizes, kernel, fromFields, Represents}
-use Rattle.state.specs.Field as field
+use Rattle.model.specs.Field as field
 use Rattle.state.specs.Layout.{cut, offset, read}
 use Rattle.priority.specs.Least.{least-first}
 use Rattle.priority.specs.Raise.{raised, Falls}

@@ -16,7 +16,7 @@ use Rattle.model.specs.Facts.{queue}
 use Rattle.model.specs.Kernel.{Kernel, others, departed, arrived, withArrivals, withPlace, withObject}
 use Rattle.model.specs.Act.{arrive}
 use Rattle.state.specs.Words.{wordCount, sizes, fields, kernel, withArrival, Represents, sized, size-of}
-use Rattle.state.specs.Field as field
+use Rattle.model.specs.Field as field
 use Rattle.queue.specs.Gather.{other, keptArrivals, keptCount, gathered, count, gathered-start, count-start, gathered-step, gathered-all, count-step, count-all, count-le, set-seam, cleared, departed-is, arrived-is}
 
 -- one place is seen: the words after it, and how many others have been found

@@ -15,7 +15,7 @@ use Rattle.model.specs.Queue.{byPriority}
 use Rattle.model.specs.Kernel.{Kernel, numbered, standsIn}
 use Rattle.model.proofs.NumberLaws.{Names, NamesNone, numbered-at, numbered-none}
 use Rattle.state.specs.Words.{wordCount, sizes, fields, kernel, sized, size-of}
-use Rattle.state.specs.Field as field
+use Rattle.model.specs.Field as field
 use Rattle.queue.specs.Arrival.{member-select}
 use Rattle.queue.specs.First.{better}
 

@@ -9,7 +9,7 @@ use borrow.Author.Fill.{fill-more}
 use Rattle.model.specs.Sizes.{tasks}
 use Rattle.model.specs.Kernel.{Kernel, withTasks, withCurrent, withCurrents}
 use Rattle.state.specs.Words.{wordCount, sizes, fields, kernel, Represents, sized, size-of}
-use Rattle.state.specs.Field as field
+use Rattle.model.specs.Field as field
 
 -- the first n tasks have the number, the others what they had
 unfoldable pub filled : ℕ → ℕ → List ℕ → List ℕ

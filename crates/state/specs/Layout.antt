@@ -10,12 +10,9 @@ use lib.ListN.{length, getD, set, take, drop, length-append, length-take, length
 use lib.Seq.{take-set-lt, take-set-le, drop-set-lt, drop-set-add, getD-take, getD-drop, set-out, set-getD, take-at, drop-at, length-take-le}
 use borrow.Author.Tests.{ltb-true, ltb-false}
 use Rattle.model.specs.Lists.{_!_, joined, sum}
+pub use Rattle.model.specs.Words.{cut}
 
--- the fields that the words hold, by their sizes, and where a field's first word stands
-abbrev pub cut : List ℕ → List ℕ → List (List ℕ)
-cut [] w = []
-cut (n ∷ ns) w = take n w ∷ cut ns (drop n w)
-
+-- where a field's first word stands
 abbrev pub offset : List ℕ → ℕ → ℕ
 offset ns zero = 0
 offset [] (suc f) = 0

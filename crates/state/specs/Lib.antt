@@ -1,5 +1,4 @@
 pub mod Layout
-pub mod Field
 pub mod Words
 pub mod Zero
 pub mod Fresh

@@ -1,81 +1,13 @@
--- The state as words: every word is a field's, and the kernel is read off them.
-use Prim.Native.Nat.{ℕ, suc, _*_}
+-- Laws of the state as words: nothing is lost between the words and the kernel.
+use Prim.Native.Nat.{ℕ}
 use mathlib.Core.Path.{_≡_, _∙_, sym, ap}
-use mathlib.Core.List.{List, [], _∷_, _++_, map}
+use mathlib.Core.List.{List, [], map}
 use lib.ListN.{length, getD, set, List·getD-map}
-use Rattle.model.specs.Sizes.{tasks, mutexes, buffers, pools, blocks}
 use Rattle.model.specs.Lists.{joined, sum}
 use Rattle.model.specs.Kernel.{Kernel, withArrivals}
-use Rattle.model.specs.Valid.{taskLists, mutexLists, bufferLists, poolLists}
-use Rattle.state.specs.Layout.{cut, joined-cut, cut-joined, lengths-cut, length-joined}
-use Rattle.state.specs.Field as field
-
--- how many words each field has, in the order of `Field`
-unfoldable pub sizes : List ℕ
-sizes =
-    suc tasks ∷ suc tasks ∷ suc tasks ∷ suc tasks ∷ suc tasks ∷ suc tasks ∷ suc tasks
-    ∷ tasks
-    ∷ suc mutexes ∷ suc mutexes ∷ suc mutexes ∷ suc mutexes
-    ∷ suc buffers ∷ suc buffers ∷ suc buffers ∷ suc buffers ∷ suc buffers
-    ∷ suc pools ∷ suc pools ∷ suc pools ∷ suc pools
-    ∷ suc pools * suc blocks
-    ∷ []
-
-abbrev pub wordCount : ℕ
-wordCount = sum sizes
-
--- the kernel whose lists are given in this order, and its lists
-unfoldable pub fromFields : List (List ℕ) → Kernel
-fromFields fs =
-    record {
-      tasks =
-          record {
-            place = at field.place;
-            object = at field.object;
-            argument = at field.argument;
-            initial = at field.initial;
-            base = at field.base;
-            current = at field.current;
-            left = at field.left;
-          };
-      arrivals = at field.arrivals;
-      mutexes =
-          record {
-            exists = at field.mutexExists;
-            attribute = at field.mutexAttribute;
-            ceiling = at field.ceiling;
-            holder = at field.holder;
-          };
-      buffers =
-          record {
-            exists = at field.bufferExists;
-            attribute = at field.bufferAttribute;
-            bufsz = at field.bufsz;
-            maxmsz = at field.maxmsz;
-            used = at field.used;
-          };
-      pools =
-          record {
-            exists = at field.poolExists;
-            attribute = at field.poolAttribute;
-            count = at field.count;
-            size = at field.size;
-            taken = at field.taken;
-          };
-    }
-  where
-    at : ℕ → List ℕ
-    at f = getD fs f []
-
-unfoldable pub fields : Kernel → List (List ℕ)
-fields k = taskLists k ++ k .arrivals ∷ mutexLists k ++ bufferLists k ++ poolLists k ++ k .pools .taken ∷ []
-
--- the kernel that the words hold, and the words of a kernel
-unfoldable pub kernel : List ℕ → Kernel
-kernel w = fromFields (cut sizes w)
-
-unfoldable pub words : Kernel → List ℕ
-words k = joined (fields k)
+use Rattle.model.specs.Words.{cut}
+use Rattle.state.specs.Layout.{joined-cut, cut-joined, lengths-cut, length-joined}
+unfoldable pub use Rattle.model.specs.Words.{sizes, wordCount, fromFields, fields, kernel, words}
 
 -- an entry of the arrival order exchanged
 abbrev pub withArrival : Kernel → ℕ → ℕ → Kernel

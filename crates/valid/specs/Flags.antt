@@ -12,7 +12,7 @@ use Rattle.model.specs.Sizes.{tasks}
 use Rattle.model.specs.Lists.{_!_}
 use Rattle.model.specs.Facts.{ready}
 use Rattle.state.specs.Words.{wordCount, sizes, fields, kernel, sized, size-of}
-use Rattle.state.specs.Field as field
+use Rattle.model.specs.Field as field
 use Rattle.model.proofs.NumberLaws.{Names, NamesNone}
 
 -- a number among two, among four, and among four and others

@@ -4,7 +4,7 @@ use native.Mathlib.Omega.{arith}
 use borrow.Author.Needs.{needs}
 use Rattle.model.specs.Kernel.{withArrivals}
 use Rattle.state.specs.Words.{kernel, sizes, fromFields}
-use Rattle.state.specs.Field as field
+use Rattle.model.specs.Field as field
 use Rattle.state.proofs.Accessor.{put}
 use Rattle.state.proofs.arrival.set_task.Statement.{statement}
 use Rattle.state.proofs.arrival.set_task.Tie as tie

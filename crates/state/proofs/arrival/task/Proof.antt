@@ -2,7 +2,7 @@
 use mathlib.Core.Path.{refl}
 use native.Mathlib.Omega.{arith}
 use Rattle.state.specs.Words.{kernel, sizes, fromFields}
-use Rattle.state.specs.Field as field
+use Rattle.model.specs.Field as field
 use Rattle.state.proofs.Accessor.{got}
 use Rattle.state.proofs.arrival.task.Statement.{statement}
 use Rattle.state.proofs.arrival.task.Tie as tie

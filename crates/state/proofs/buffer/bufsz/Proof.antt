@@ -2,7 +2,7 @@
 use native.Mathlib.Omega.{arith}
 use borrow.Author.Needs.{needs}
 use Rattle.state.specs.Words.{kernel, sizes, fromFields}
-use Rattle.state.specs.Field as field
+use Rattle.model.specs.Field as field
 use Rattle.state.proofs.Accessor.{got}
 use Rattle.state.proofs.buffer.bufsz.Statement.{statement}
 use Rattle.state.proofs.buffer.bufsz.Tie as tie

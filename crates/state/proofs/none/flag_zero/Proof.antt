@@ -5,7 +5,7 @@ use native.Mathlib.Omega.{arith}
 use mathlib.Core.Path.{ap, sym}
 use lib.Dec.{eqb}
 use Rattle.state.specs.Words.{kernel, sizes, fromFields}
-use Rattle.state.specs.Field as field
+use Rattle.model.specs.Field as field
 use Rattle.state.proofs.Accessor.{got}
 use Rattle.state.proofs.none.flag_zero.Statement.{statement}
 use Rattle.state.proofs.none.flag_zero.Tie as tie

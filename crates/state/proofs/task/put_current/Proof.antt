@@ -4,7 +4,7 @@ use mathlib.Core.Path.{refl}
 use borrow.Author.Needs.{needs}
 use Rattle.model.specs.Kernel.{withCurrent}
 use Rattle.state.specs.Words.{kernel, sizes, fromFields}
-use Rattle.state.specs.Field as field
+use Rattle.model.specs.Field as field
 use Rattle.state.proofs.Accessor.{put}
 use Rattle.state.proofs.task.put_current.Statement.{statement}
 use Rattle.state.proofs.task.put_current.Tie as tie

@@ -11,13 +11,13 @@ use Rattle.model.proofs.number.BufferNumber.from_field.Tie as tie
 field-number-requires : tie.Need-field-number-requires
 field-number-requires c κs = search needs
 
-checked-requires : tie.Need-checked-requires
-checked-requires c κs = search needs
+maybe-requires : tie.Need-maybe-requires
+maybe-requires c κs = search needs
 
 returns : tie.Need-returns
 returns c =
-    c .checked .ensures
+    c .maybe .ensures
     ∙ ap maybeBuffer (c .before .field-number .ensures ∙ ap (λ (z : ℤ). fieldNumber z buffers) (toZ-ofZ (c .before .before .fits .n)))
 
 pub from-field-spec : {M : Type 1} → statement M
-from-field-spec = tie.close (tie.spec field-number-requires checked-requires returns)
+from-field-spec = tie.close (tie.spec field-number-requires maybe-requires returns)

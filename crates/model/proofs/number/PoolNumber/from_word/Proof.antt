@@ -8,11 +8,11 @@ use Rattle.model.proofs.number.PoolNumber.from_word.Tie as tie
 word-number-requires : tie.Need-word-number-requires
 word-number-requires c κs = search needs
 
-checked-requires : tie.Need-checked-requires
-checked-requires c κs = search needs
+maybe-requires : tie.Need-maybe-requires
+maybe-requires c κs = search needs
 
 returns : tie.Need-returns
-returns c = c .checked .ensures ∙ ap maybePool (c .before .word-number .ensures)
+returns c = c .maybe .ensures ∙ ap maybePool (c .before .word-number .ensures)
 
 pub from-word-spec : {M : Type 1} → statement M
-from-word-spec = tie.close (tie.spec word-number-requires checked-requires returns)
+from-word-spec = tie.close (tie.spec word-number-requires maybe-requires returns)

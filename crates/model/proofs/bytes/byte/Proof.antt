@@ -2,8 +2,8 @@
 use mathlib.Core.Path.{sym}
 use lib.ListN.{List·getD-eq-default}
 use borrow.Author.Needs.{needs}
-use Rattle.script.proofs.place.byte.Statement.{statement}
-use Rattle.script.proofs.place.byte.Tie as tie
+use Rattle.model.proofs.bytes.byte.Statement.{statement}
+use Rattle.model.proofs.bytes.byte.Tie as tie
 
 shared-slice-read-result : tie.Need-shared-slice-read-result
 shared-slice-read-result c = search needs
