@@ -7,7 +7,8 @@ use Rattle.model.specs.Lists.{joined, sum}
 use Rattle.model.specs.Kernel.{Kernel, withArrivals}
 use Rattle.model.specs.Words.{cut}
 use Rattle.state.specs.Layout.{joined-cut, cut-joined, lengths-cut, length-joined}
-unfoldable pub use Rattle.model.specs.Words.{sizes, wordCount, fromFields, fields, kernel, words}
+unfoldable pub use Rattle.model.specs.Words.{sizes, fromFields, fields, kernel, words}
+pub use Rattle.model.specs.Words.{wordCount}
 
 -- an entry of the arrival order exchanged
 abbrev pub withArrival : Kernel → ℕ → ℕ → Kernel
