@@ -6,11 +6,13 @@ use native.Mathlib.Omega.{arith}
 use mathlib.Core.List.{List, [], _∷_, _++_, append-assoc}
 use mathlib.Core.Path.{_≡_, _∙_, refl, sym, ap}
 use lib.ListN.{length, take, drop, length-append, length-take, length-drop, length-replicate}
-use lib.Seq.{take-at, drop-at, take-take, take-nil, length-take-le, drop-append-add, drop-drop}
+use lib.Seq.{take-at, drop-at, take-take, take-nil, length-take-le, drop-append-add, drop-drop, sets-eq, length-sets}
 use Rattle.model.specs.Sizes.{regionBytes, messageBytes}
 use Rattle.model.specs.Lists.{zeros, padded}
 use Rattle.model.specs.Message.{part, withPart, region, withRegion, outboxMessage, withOutboxMessage}
-use Rattle.message.proofs.Parts.{next-part, part-size}
+use Rattle.model.proofs.ListLaws.{take-zeros}
+use Rattle.message.proofs.Parts.{next-part, part-size, length-padded}
+use Rattle.message.proofs.Stores.{overwritten-sets}
 
 -- ---- parts of one size
 
@@ -27,6 +29,11 @@ agree-before p n a l r e h =
 drop-past : (xs ys : List ℕ) (n t : ℕ) → length xs ≡ n → drop (n + t) (xs ++ ys) ≡ drop t ys
 drop-past xs ys n t e = rw (← e) (drop-append-add xs ys t)
 
+-- the area keeps its length, whatever the number and the bytes
+pub length-withPart : (size n : ℕ) (s x : List ℕ) → length (withPart size n s x) ≡ length s
+unfolding withPart
+length-withPart size n s x = ap length (overwritten-sets s (pred n * size) x) ∙ length-sets s (pred n * size) x
+
 module _ (size n : ℕ) (s x : List ℕ) (low : 1 ≤ n) (high : n * size ≤ length s) (full : length x ≡ size) where
   before : length (take (pred n * size) s) ≡ pred n * size
   before = length-take-le (pred n * size) s (omega (arith, next-part size n low))
@@ -34,30 +41,33 @@ module _ (size n : ℕ) (s x : List ℕ) (low : 1 ≤ n) (high : n * size ≤ le
   through : length (take (pred n * size) s ++ x) ≡ n * size
   through = length-append (take (pred n * size) s) x ∙ rw (before, full) (next-part size n low)
 
-  pub length-withPart : length (withPart size n s x) ≡ length s
+  -- a whole part takes the place of the one that was there
+  exchanged : withPart size n s x ≡ take (pred n * size) s ++ x ++ drop (n * size) s
   unfolding withPart
-  length-withPart = length-append (take (pred n * size) s ++ x) (drop (n * size) s) ∙ rw (through, length-drop) (omega arith)
+  exchanged =
+      let e : pred n * size + length x ≡ n * size = rw full (next-part size n low) in
+      overwritten-sets s (pred n * size) x ∙ sets-eq x s (pred n * size) (omega arith) ∙ rw e
 
   pub part-same : part size n (withPart size n s x) ≡ x
-  unfolding part withPart
+  unfolding part
   part-same =
-      rw append-assoc
+      rw (exchanged, append-assoc)
       (ap (take size) (drop-at (take (pred n * size) s) (x ++ drop (n * size) s) (pred n * size) before) ∙ take-at x (drop (n * size) s) size full)
 
   part-earlier : (k : ℕ) → 1 ≤ k → k < n → part size k (withPart size n s x) ≡ part size k s
-  unfolding part withPart
+  unfolding part
   part-earlier k l h =
       agree-before (pred n * size) size (pred k * size) _ s
-      (rw append-assoc (take-at (take (pred n * size) s) (x ++ drop (n * size) s) (pred n * size) before))
+      (rw (exchanged, append-assoc) (take-at (take (pred n * size) s) (x ++ drop (n * size) s) (pred n * size) before))
       (rw (next-part size k l) (mul-le-mul-right size (omega arith)))
 
   part-later : (k : ℕ) → n < k → part size k (withPart size n s x) ≡ part size k s
-  unfolding part withPart
+  unfolding part
   part-later k h =
       let far : n * size ≤ pred k * size = mul-le-mul-right size (omega arith) in
       let t : ℕ = pred k * size - n * size in
       let e : pred k * size ≡ n * size + t = omega arith in
-      ap (take size) (rw e (drop-past (take (pred n * size) s ++ x) (drop (n * size) s) (n * size) t through ∙ drop-drop t (n * size) s))
+      ap (take size) (rw (exchanged, e) (drop-past (take (pred n * size) s ++ x) (drop (n * size) s) (n * size) t through ∙ drop-drop t (n * size) s))
 
   pub part-other : (k : ℕ) → 1 ≤ k → (k ≡ n → ⊥) → part size k (withPart size n s x) ≡ part size k s
   part-other k l h = go (decLe n k)
@@ -68,16 +78,8 @@ module _ (size n : ℕ) (s x : List ℕ) (low : 1 ≤ n) (high : n * size ≤ le
 
 -- ---- a message at the start of its part
 
-length-padded : (n : ℕ) (m : List ℕ) → length (padded n m) ≡ n
-length-padded n m = length-take-le n (m ++ zeros n) (rw (length-append, length-replicate) (omega arith))
-
 take-padded : (n : ℕ) (m : List ℕ) → length m ≤ n → take (length m) (padded n m) ≡ m
 take-padded n m h = take-take (length m) n (m ++ zeros n) h ∙ take-at m (zeros n) (length m) refl
-
-take-zeros : (t n : ℕ) → t ≤ n → take t (zeros n) ≡ zeros t
-take-zeros zero n h = refl
-take-zeros (suc t) zero h = absurd (omega arith)
-take-zeros (suc t) (suc n) h = ap (λ (l : List ℕ). 0 ∷ l) (take-zeros t n (omega arith))
 
 drop-padded : (n : ℕ) (m : List ℕ) → length m ≤ n → drop (length m) (padded n m) ≡ zeros (n - length m)
 drop-padded n m h =
@@ -88,11 +90,11 @@ drop-padded n m h =
 
 -- ---- the store
 
-module _ (b : ℕ) (s x : List ℕ) (low : 1 ≤ b) (high : b * regionBytes ≤ length s) (full : length x ≡ regionBytes) where
-  pub length-withRegion : length (withRegion b s x) ≡ length s
-  unfolding withRegion
-  length-withRegion = length-withPart regionBytes b s x low high full
+pub length-withRegion : (b : ℕ) (s x : List ℕ) → length (withRegion b s x) ≡ length s
+unfolding withRegion
+length-withRegion b s x = length-withPart regionBytes b s x
 
+module _ (b : ℕ) (s x : List ℕ) (low : 1 ≤ b) (high : b * regionBytes ≤ length s) (full : length x ≡ regionBytes) where
   pub region-same : region b (withRegion b s x) ≡ x
   unfolding region withRegion
   region-same = part-same regionBytes b s x low high full
@@ -103,11 +105,11 @@ module _ (b : ℕ) (s x : List ℕ) (low : 1 ≤ b) (high : b * regionBytes ≤ 
 
 -- ---- the outbox
 
-module _ (t : ℕ) (s m : List ℕ) (low : 1 ≤ t) (high : t * messageBytes ≤ length s) where
-  pub length-withOutboxMessage : length (withOutboxMessage t s m) ≡ length s
-  unfolding withOutboxMessage
-  length-withOutboxMessage = length-withPart messageBytes t s (padded messageBytes m) low high (length-padded messageBytes m)
+pub length-withOutboxMessage : (t : ℕ) (s m : List ℕ) → length (withOutboxMessage t s m) ≡ length s
+unfolding withOutboxMessage
+length-withOutboxMessage t s m = length-withPart messageBytes t s (padded messageBytes m)
 
+module _ (t : ℕ) (s m : List ℕ) (low : 1 ≤ t) (high : t * messageBytes ≤ length s) where
   pub outbox-same : part messageBytes t (withOutboxMessage t s m) ≡ padded messageBytes m
   unfolding withOutboxMessage
   outbox-same = part-same messageBytes t s (padded messageBytes m) low high (length-padded messageBytes m)

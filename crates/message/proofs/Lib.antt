@@ -6,5 +6,4 @@ pub mod Regions
 pub mod Layouts
 pub mod Kept
 pub mod Areas
-pub mod Numbers
 pub mod Shown

@@ -2,18 +2,21 @@
 use Prim.Native.Nat.{ℕ, _+_, _-_, _≤_, min}
 use native.Mathlib.Omega.{arith}
 use mathlib.Core.List.{List, [], _++_, append-nil}
-use mathlib.Core.Path.{_≡_, _∙_, sym}
+use mathlib.Core.Path.{_≡_, _∙_, sym, ap}
 use lib.ListN.{length, take, drop, length-append, length-take, length-drop, length-replicate, drop-of-length-le}
-use lib.Seq.{sets, take-all}
+use lib.Seq.{sets, take-all, length-sets}
 use Rattle.model.specs.Lists.{zeros, padded}
 use Rattle.model.specs.Code.{bytes4}
 use Rattle.model.specs.Message.{roundedUp, cost, packed, appended, oldestLength, removed}
 use Rattle.message.proofs.Parts.{take-min, drop-min}
-use Rattle.message.proofs.Stores.{sets-append, sets-clipped, sets-front, sets-whole}
+use Rattle.message.proofs.Stores.{sets-append, overwritten-sets, sets-front, sets-whole}
 
 pub appended-sets : (r : List ℕ) (used : ℕ) (m : List ℕ) → appended r used m ≡ sets r used (packed m)
 unfolding appended
-appended-sets r used m = sets-clipped (packed m) r used
+appended-sets r used m = overwritten-sets r used (packed m)
+
+pub length-appended : (r : List ℕ) (used : ℕ) (m : List ℕ) → length (appended r used m) ≡ length r
+length-appended r used m = ap length (appended-sets r used m) ∙ length-sets r used (packed m)
 
 -- a message is stored in three steps: its length, its bytes, the zeros behind them
 pub packed-sets : (r m : List ℕ) (n : ℕ) → let k = min n (length m) in
@@ -31,6 +34,9 @@ removed-sets r =
     let e : length r - k ≡ 0 + length (drop c r) = omega (arith, length-drop c r) in
     let whole : length (drop c r ++ zeros k) ≡ length r = length-append (drop c r) (zeros k) ∙ rw (length-drop, length-replicate) (omega arith) in
     rw (drop-min c r) (rw e (sym (sets-append (drop c r) (zeros k) r 0) ∙ sets-whole (drop c r ++ zeros k) r whole))
+
+pub length-removed : (r : List ℕ) → length (removed r) ≡ length r
+length-removed r = sym (ap length (removed-sets r)) ∙ simp length-sets
 
 -- bytes at the front of a part, and zeros up to its end, in two steps
 pub padded-sets : (p m : List ℕ) (n : ℕ) → let k = min n (length m) in

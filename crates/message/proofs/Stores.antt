@@ -8,6 +8,7 @@ use native.Mathlib.Omega.{arith}
 use mathlib.Core.List.{List, [], _∷_, _++_, append-nil}
 use mathlib.Core.Path.{_≡_, _∙_, refl, sym, ap}
 use lib.ListN.{length, getD, take, drop, set, length-set, length-drop, drop-of-length-le}
+use Rattle.model.specs.Message.{overwritten}
 use lib.Seq.{sets, set-out, take-all, take-length, drop-cons, drop-drop, getD-drop, drop-set-lt}
 
 -- beyond the end nothing is stored
@@ -47,6 +48,22 @@ pub sets-clipped : (xs l : List ℕ) (i : ℕ) → take (length l) (take i l ++ 
 sets-clipped xs l zero = rw zero-add (sets-front xs l)
 sets-clipped xs [] (suc i) = sym (sets-out xs [] (suc i) (omega arith))
 sets-clipped xs (y ∷ l) (suc i) = rw suc-add (ap (λ (r : List ℕ). y ∷ r) (sets-clipped xs l i) ∙ sym (sets-cons xs l y i))
+
+-- what the definitions put over an area is stored there, whatever the place
+pub overwritten-sets : (l : List ℕ) (i : ℕ) (xs : List ℕ) → overwritten l i xs ≡ sets l i xs
+unfolding overwritten
+overwritten-sets l i xs = sets-clipped xs l i
+
+-- a list that is stored over the whole of a shorter one, as far as that reaches
+pub sets-over : (xs l : List ℕ) → length l ≤ length xs → sets l 0 xs ≡ take (length l) xs
+sets-over xs l h = sym (sets-front xs l) ∙ rw (drop-of-length-le l h, append-nil)
+
+-- stores that stay within the first of two lists
+pub sets-first : (xs l r : List ℕ) → length xs ≤ length l → sets (l ++ r) 0 xs ≡ sets l 0 xs ++ r
+sets-first [] l r h = refl
+sets-first (x ∷ xs) [] r h = absurd (omega arith)
+sets-first (x ∷ xs) (y ∷ l) r h =
+    sets-cons xs (l ++ r) x 0 ∙ ap (λ (k : List ℕ). x ∷ k) (sets-first xs l r (omega arith)) ∙ ap (λ (k : List ℕ). k ++ r) (sym (sets-cons xs l x 0))
 
 -- stores into the last part of a list, lent by itself
 pub sets-lent : (xs l : List ℕ) (a : ℕ) → take a l ++ (sets (take (length l - a) (drop a l)) 0 xs ++ drop (length l - a) (drop a l)) ≡ sets l a xs

@@ -1,4 +1,4 @@
-// The next message of a buffer, shown where it lies.
+// A message, shown where it lies.
 use super::outbox::outbox_message;
 use super::store::store_oldest;
 use model::number::BufferNumber;
@@ -14,7 +14,7 @@ pub enum Location {
 }
 
 // A part of the store or of the outbox, whichever holds the message.
-pub fn next_message<'a>(store: &'a [u8], outbox: &'a [u8], at: Location) -> &'a [u8]
+pub fn message_at<'a>(store: &'a [u8], outbox: &'a [u8], at: Location) -> &'a [u8]
     ensures { λ m. ⌜ now m ≡ messageAt at (now (store .entry)) (now (outbox .entry)) ⌝ }
 {
     match at {

@@ -9,12 +9,9 @@ use model::number::BufferNumber;
 use model::number::TaskNumber;
 ghost use mathlib.Core.Path.{_≡_};
 ghost use mathlib.Core.List.{[]};
-ghost use Prim.Native.Nat.{_≤_};
 ghost use lib.ListN.{length, take};
-ghost use Rattle.model.specs.Sizes.{tasks, outboxBytes};
 ghost use Rattle.model.specs.Lists.{padded};
 ghost use Rattle.model.specs.Message.{appended, region, withRegion, outboxMessage, withOutboxMessage};
-ghost use Rattle.model.specs.Valid.{From};
 
 // The first n bytes of m, and zeros up to the end of a slice.
 fn fill(p: &mut [u8], m: &[u8], n: usize)
@@ -26,8 +23,6 @@ fn fill(p: &mut [u8], m: &[u8], n: usize)
 }
 
 pub fn outbox_put(outbox: &mut [u8], t: TaskNumber, m: &[u8], n: usize)
-    requires { ⌜ length (now outbox) ≡ outboxBytes ⌝ }
-    requires { ⌜ From 1 tasks (t .0) ⌝ }
     ensures { λ _. ⌜ now (outbox .exit) ≡ withOutboxMessage (t .0) (now (outbox .entry)) (take n (now (m .entry))) ⌝ }
 {
     let p = outbox_part(t, outbox.len());
@@ -37,8 +32,6 @@ pub fn outbox_put(outbox: &mut [u8], t: TaskNumber, m: &[u8], n: usize)
 }
 
 pub fn outbox_clear(outbox: &mut [u8], t: TaskNumber)
-    requires { ⌜ length (now outbox) ≡ outboxBytes ⌝ }
-    requires { ⌜ From 1 tasks (t .0) ⌝ }
     ensures { λ _. ⌜ now (outbox .exit) ≡ withOutboxMessage (t .0) (now (outbox .entry)) [] ⌝ }
 {
     let p = outbox_part(t, outbox.len());
@@ -66,7 +59,6 @@ pub fn move_to_store(
     t: TaskNumber,
     n: usize,
 )
-    requires { ⌜ 1 ≤ b .0 ⌝ }
     ensures { λ _. ⌜ now (store .exit) ≡ withRegion (b .0) (now (store .entry)) (appended (region (b .0) (now (store .entry))) used (outboxMessage (t .0) n (now (outbox .entry)))) ⌝ }
 {
     let m = outbox_message(outbox, t, n);

@@ -7,8 +7,10 @@ use super::copy::put_length;
 use super::copy::shift;
 use super::room::cost;
 use super::room::padding;
+use model::bytes::byte;
+use model::bytes::number4;
 ghost use mathlib.Core.Path.{_≡_};
-ghost use lib.ListN.{length, take, getD};
+ghost use lib.ListN.{length, take};
 ghost use lib.Seq.{sets};
 ghost use Rattle.model.specs.Lists.{zeros};
 ghost use Rattle.model.specs.Message.{packed, appended, oldestLength, oldest, removed};
@@ -32,19 +34,10 @@ pub fn append(r: &mut [u8], used: usize, m: &[u8], n: usize)
     }
 }
 
-fn byte_at(r: &[u8], at: usize) -> u8
-    ensures { λ b. ⌜ b ≡ getD (now (r .entry)) at 0 ⌝ }
-{
-    if at < r.len() { r[at] } else { 0 }
-}
-
 pub fn oldest_length(r: &[u8]) -> u32
     ensures { λ n. ⌜ n ≡ oldestLength (now (r .entry)) ⌝ }
 {
-    byte_at(r, 0) as u32
-        + byte_at(r, 1) as u32 * 256
-        + byte_at(r, 2) as u32 * 65536
-        + byte_at(r, 3) as u32 * 16777216
+    number4(byte(r, 0), byte(r, 1), byte(r, 2), byte(r, 3))
 }
 
 // The oldest message leaves: the rest moves to the front, and zeros stand where it ended.

@@ -1,8 +1,7 @@
 // The store: a region for each buffer, in order. Each function lends one buffer's region, the middle part of the store, and
 // nothing else of it.
-//
-// A buffer's number is at least 1: `withRegion 0` would make the store longer, which no slice can be. Where the number is above
-// the last, or the store is too short, the part that is lent is shorter or empty, and so is the definition's region.
+// Nothing is asked of the store or of the number: where the number is above the last, or the store is too short, the part that is lent is
+// shorter or empty, and so is the definition's region.
 use super::part::region_part;
 use super::region::append;
 use super::region::clear;
@@ -11,15 +10,12 @@ use super::region::oldest_length;
 use super::region::remove;
 use model::number::BufferNumber;
 ghost use mathlib.Core.Path.{_≡_};
-ghost use Prim.Native.Nat.{_≤_};
-ghost use lib.ListN.{length, take};
-ghost use Rattle.model.specs.Sizes.{buffers, regionBytes, storeBytes};
+ghost use lib.ListN.{take};
+ghost use Rattle.model.specs.Sizes.{regionBytes};
 ghost use Rattle.model.specs.Lists.{zeros};
 ghost use Rattle.model.specs.Message.{appended, oldestLength, oldest, removed, region, withRegion};
-ghost use Rattle.model.specs.Valid.{From};
 
 pub fn store_append(store: &mut [u8], b: BufferNumber, used: usize, m: &[u8], n: usize)
-    requires { ⌜ 1 ≤ b .0 ⌝ }
     ensures { λ _. ⌜ now (store .exit) ≡ withRegion (b .0) (now (store .entry)) (appended (region (b .0) (now (store .entry))) used (take n (now (m .entry)))) ⌝ }
 {
     let p = region_part(b, store.len());
@@ -29,7 +25,6 @@ pub fn store_append(store: &mut [u8], b: BufferNumber, used: usize, m: &[u8], n:
 }
 
 pub fn store_remove(store: &mut [u8], b: BufferNumber)
-    requires { ⌜ 1 ≤ b .0 ⌝ }
     ensures { λ _. ⌜ now (store .exit) ≡ withRegion (b .0) (now (store .entry)) (removed (region (b .0) (now (store .entry)))) ⌝ }
 {
     let p = region_part(b, store.len());
@@ -38,10 +33,7 @@ pub fn store_remove(store: &mut [u8], b: BufferNumber)
     remove(&mut store[a..e]);
 }
 
-// The region must be whole: `zeros regionBytes` takes its place whatever its length.
 pub fn store_clear(store: &mut [u8], b: BufferNumber)
-    requires { ⌜ length (now store) ≡ storeBytes ⌝ }
-    requires { ⌜ From 1 buffers (b .0) ⌝ }
     ensures { λ _. ⌜ now (store .exit) ≡ withRegion (b .0) (now (store .entry)) (zeros regionBytes) ⌝ }
 {
     let p = region_part(b, store.len());

@@ -1,5 +1,4 @@
--- `outbox_clear` meets its contract: the part lent is whole, and zeros are a message of no bytes. Assumes nothing.
-use native.Mathlib.Omega.{arith}
+-- `outbox_clear` meets its contract: zeros are a message of no bytes. Assumes nothing.
 use mathlib.Core.List.{[]}
 use borrow.Author.Needs.{needs}
 use Rattle.model.specs.Lists.{zeros}
@@ -28,9 +27,7 @@ same-length c = search needs
 
 returns : tie.Need-returns
 returns c =
-    let start = c .before .before .before .before .before .before in
-    let p = start .pre in
-    outbox-back (start .args .outbox .now) (c .before .before .before .before .outbox-part .ensures) (p .1 .0) (omega arith) [] (rw zeros-padded at (c .before .before .clear .ensures))
+    outbox-back (c .before .before .before .before .before .before .args .outbox .now) (c .before .before .before .before .outbox-part .ensures) [] (rw zeros-padded at (c .before .before .clear .ensures))
 
 pub outbox-clear-spec : {M : Type 1} → statement M
 outbox-clear-spec =

@@ -1,5 +1,4 @@
--- `outbox_put` meets its contract: the part lent is whole, and put back it is the definition's. Assumes nothing.
-use native.Mathlib.Omega.{arith}
+-- `outbox_put` meets its contract: the part lent and put back is the definition's. Assumes nothing.
 use lib.ListN.{take}
 use borrow.Author.Needs.{needs}
 use Rattle.message.proofs.Parts.{outbox-back}
@@ -26,10 +25,8 @@ same-length c = search needs
 
 returns : tie.Need-returns
 returns c =
-    let start = c .before .before .before .before .before .before .before in
-    let a = start .args in
-    let p = start .pre in
-    outbox-back (a .outbox .now) (c .before .before .before .before .outbox-part .ensures) (p .1 .0) (omega arith) (take (a .n) (a .m .now)) (c .before .before .fill .ensures)
+    let a = c .before .before .before .before .before .before .before .args in
+    outbox-back (a .outbox .now) (c .before .before .before .before .outbox-part .ensures) (take (a .n) (a .m .now)) (c .before .before .fill .ensures)
 
 pub outbox-put-spec : {M : Type 1} → statement M
 outbox-put-spec =

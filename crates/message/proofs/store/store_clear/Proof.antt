@@ -1,12 +1,6 @@
--- `store_clear` meets its contract: the region lent is whole, so it has `regionBytes` zeros then. Assumes nothing.
-use Prim.Native.Nat.{ℕ}
-use native.Mathlib.Omega.{arith}
-use mathlib.Core.Path.{_∙_, ap}
-use lib.ListN.{length}
+-- `store_clear` meets its contract: the region lent has zeros then, as many as there are bytes. Assumes nothing.
 use borrow.Author.Needs.{needs}
-use Rattle.model.specs.Lists.{zeros}
-use Rattle.model.specs.Message.{region, withRegion}
-use Rattle.message.proofs.Parts.{region-back, region-size}
+use Rattle.message.proofs.Parts.{region-cleared}
 use Rattle.message.proofs.store.store_clear.Statement.{statement}
 use Rattle.message.proofs.store.store_clear.Tie as tie
 
@@ -30,12 +24,7 @@ same-length c = search needs
 
 returns : tie.Need-returns
 returns c =
-    let start = c .before .before .before .before .before .before in
-    let s = start .args .store .now in
-    let b = start .args .b .0 in
-    let p = start .pre in
-    region-back s (c .before .before .before .before .region-part .ensures) (p .1 .0) (λ r. zeros (length r)) (c .before .before .clear .ensures)
-    ∙ ap (λ (n : ℕ). withRegion b s (zeros n)) (region-size b s (p .1 .0) (omega arith))
+    region-cleared (c .before .before .before .before .before .before .args .store .now) (c .before .before .before .before .region-part .ensures) (c .before .before .clear .ensures)
 
 pub store-clear-spec : {M : Type 1} → statement M
 store-clear-spec =

@@ -2,6 +2,7 @@
 use borrow.Author.Needs.{needs}
 use Rattle.model.specs.Message.{removed, region}
 use Rattle.message.proofs.Parts.{region-back}
+use Rattle.message.proofs.Packing.{length-removed}
 use Rattle.message.proofs.store.store_remove.Statement.{statement}
 use Rattle.message.proofs.store.store_remove.Tie as tie
 
@@ -25,8 +26,7 @@ same-length c = search needs
 
 returns : tie.Need-returns
 returns c =
-    let start = c .before .before .before .before .before .before in
-    region-back (start .args .store .now) (c .before .before .before .before .region-part .ensures) (start .pre) removed (c .before .before .remove .ensures)
+    region-back (c .before .before .before .before .before .before .args .store .now) (c .before .before .before .before .region-part .ensures) removed length-removed (c .before .before .remove .ensures)
 
 pub store-remove-spec : {M : Type 1} → statement M
 store-remove-spec =

@@ -1,8 +1,8 @@
--- `next_message` meets its contract, case by case. Assumes nothing.
+-- `message_at` meets its contract, case by case. Assumes nothing.
 use borrow.Author.Needs.{needs}
 use Rattle.message.specs.NextMessage.{messageAt}
-use Rattle.message.proofs.next.next_message.Statement.{statement}
-use Rattle.message.proofs.next.next_message.Tie as tie
+use Rattle.message.proofs.next.message_at.Statement.{statement}
+use Rattle.message.proofs.next.message_at.Tie as tie
 
 enum-known-at : tie.Need-enum-known-at
 enum-known-at c = search needs
@@ -43,8 +43,8 @@ returns-3 : tie.Need-returns-3
 unfolding messageAt
 returns-3 c = cc
 
-pub next-message-spec : {M : Type 1} → statement M
-next-message-spec =
+pub message-at-spec : {M : Type 1} → statement M
+message-at-spec =
     tie.close
     (tie.spec
     enum-known-at
