@@ -24,7 +24,7 @@ use Rattle.model.specs.Facts.{queue}
 use Rattle.model.specs.Kernel.{Kernel}
 use Rattle.model.specs.World.{Lent, running, queueOrder}
 use Rattle.model.specs.Step.{step, freshLent}
-use Rattle.model.specs.Record.{readRecord, messageAt}
+use Rattle.model.specs.Record.{readRecord, recordMessage}
 use Rattle.model.specs.Compute.{compute}
 use Rattle.model.specs.Script.{scriptLog}
 use Rattle.model.specs.Ledger.{Ledger, %s}
@@ -39,7 +39,7 @@ follow zero x l s at = true
 follow (suc n) x l s at =
     elim (leb (length s) at) [ true ↦ true | false ↦
     elim (readRecord s at) [ Stop offset ↦ true | Record c next ↦
-      let o = step x c (messageAt s at) in
+      let o = step x c (recordMessage s at) in
       let m = entered l c (o .answer) (map (λ e. (e .task, e .code)) (o .ended)) in
       agree (o .lent .kernel) m && follow n (o .lent) m s (next .at) ] ]
 

@@ -9,7 +9,7 @@ use lib.Seq.{take-all, take-at, drop-append-add}
 use borrow.Author.Tests.{ne-eqb}
 use Rattle.model.specs.Sizes.{regionBytes}
 use Rattle.model.specs.Lists.{joined, zeros}
-use Rattle.model.specs.Message.{cost, packed, appended, oldestLength, oldest, removed, overwritten}
+use Rattle.model.specs.Message.{cost, packed, appended, oldestLength, oldest, removed, over, overwritten}
 use Rattle.message.specs.Packing.{totalCost, regionOf, unpacked}
 use Rattle.message.proofs.Messages.{length-packed, oldestLength-packed, oldest-packed, behind-packed, removed-packed}
 
@@ -39,7 +39,7 @@ drop-zeros (suc n) (suc k) = let e : k - n ≡ suc k - suc n = omega arith in dr
 -- ---- one more message behind some bytes and zeros
 
 pub appended-behind : (j m : List ℕ) (used k : ℕ) → length j ≡ used → cost (length m) ≤ k → appended (j ++ zeros k) used m ≡ j ++ packed m ++ zeros (k - cost (length m))
-unfolding appended overwritten
+unfolding appended over overwritten
 appended-behind j m used k e h =
     let n : ℕ = cost (length m) in
     let all : length (j ++ packed m ++ zeros (k - n)) ≤ length (j ++ zeros k) = simp (length-append, length-replicate, length-packed) (omega arith) in

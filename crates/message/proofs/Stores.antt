@@ -8,7 +8,7 @@ use native.Mathlib.Omega.{arith}
 use mathlib.Core.List.{List, [], _∷_, _++_, append-nil}
 use mathlib.Core.Path.{_≡_, _∙_, refl, sym, ap}
 use lib.ListN.{length, getD, take, drop, set, length-set, length-drop, drop-of-length-le}
-use Rattle.model.specs.Message.{overwritten}
+use Rattle.model.specs.Message.{over, overwritten}
 use lib.Seq.{sets, set-out, take-all, take-length, drop-cons, drop-drop, getD-drop, drop-set-lt}
 
 -- beyond the end nothing is stored
@@ -51,7 +51,7 @@ sets-clipped xs (y ∷ l) (suc i) = rw suc-add (ap (λ (r : List ℕ). y ∷ r) 
 
 -- what the definitions put over an area is stored there, whatever the place
 pub overwritten-sets : (l : List ℕ) (i : ℕ) (xs : List ℕ) → overwritten l i xs ≡ sets l i xs
-unfolding overwritten
+unfolding over overwritten
 overwritten-sets l i xs = sets-clipped xs l i
 
 -- a list that is stored over the whole of a shorter one, as far as that reaches

@@ -87,8 +87,8 @@ pub record Went : Type 0 where
   pub areas : Areas
 
 -- the script is over, with these bytes of log
-unfoldable pub over : Areas → List ℕ → Went
-over a log = record { progress = Over; written = length log; areas = withLog a log }
+unfoldable pub scriptOver : Areas → List ℕ → Went
+scriptOver a log = record { progress = Over; written = length log; areas = withLog a log }
 
 -- a record's call was answered, and the next record stands there
 unfoldable pub went : Returned → ℕ → Went
@@ -99,10 +99,10 @@ went r next = record { progress = Answered (r .answer) (record { at = next }); w
 unfoldable pub lentRecord : Areas → List ℕ → ℕ → Went
 lentRecord a script at =
     cond (eqb (length (a .log)) logBytes)
-    (cond (ltb scriptBytes (length script)) (over a tooLongBytes)
-    (cond (leb (length script) at) (over a [])
+    (cond (ltb scriptBytes (length script)) (scriptOver a tooLongBytes)
+    (cond (leb (length script) at) (scriptOver a [])
     (elim (readRecord script at) [
-      | Stop offset ↦ over a (stopBytes offset)
+      | Stop offset ↦ scriptOver a (stopBytes offset)
       | Record c next ↦ went (lentStep a c (recordMessage script at)) (next .at)
     ])))
     (record { progress = NoArea; written = 0; areas = a })
@@ -115,5 +115,5 @@ progressAnswer NoArea = some (Code E-SYS)
 
 -- what has to unfold for the definitions of this file to compute
 unfoldable pub computeLent : Unit {0}
-unfolding isValid withLog untouched notValid returned lentStep over went lentRecord
+unfolding isValid withLog untouched notValid returned lentStep scriptOver went lentRecord
 computeLent = tt

@@ -12,9 +12,12 @@ use Rattle.model.specs.Code.{bytes4, number4}
 unfoldable pub handed : List ℕ → List ℕ
 handed bytes = padded messageBytes bytes
 
--- Bytes put over an area from a place on. The area keeps its length: what would lie beyond its end is left out.
+-- Bytes put over an area from a place on; and the same with the area's length kept, what would lie beyond its end being left out.
+unfoldable pub over : List ℕ → ℕ → List ℕ → List ℕ
+over area at bytes = take at area ++ bytes ++ drop (at + length bytes) area
+
 unfoldable pub overwritten : List ℕ → ℕ → List ℕ → List ℕ
-overwritten area at bytes = take (length area) (take at area ++ bytes ++ drop (at + length bytes) area)
+overwritten area at bytes = take (length area) (over area at bytes)
 
 -- "Cost in store: 4 plus the length rounded up to a multiple of 4"
 abbrev pub roundedUp : ℕ → ℕ
@@ -64,6 +67,6 @@ withOutboxMessage t outbox m = withPart messageBytes t outbox (padded messageByt
 
 -- what has to unfold for the definitions of this file to compute
 unfoldable pub computeMessage : Unit {0}
-unfolding handed overwritten cost packed appended oldestLength oldest removed part withPart region withRegion outboxMessage
+unfolding handed over overwritten cost packed appended oldestLength oldest removed part withPart region withRegion outboxMessage
     withOutboxMessage
 computeMessage = tt

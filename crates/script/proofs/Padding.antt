@@ -1,18 +1,14 @@
 -- A message with zeros behind it: the first of its bytes, placed at the front of as many zeros. Assumes nothing.
 use Prim.Native.Nat.{ℕ, zero, suc, _≤_}
-use native.Mathlib.Nat.{zero-add, le-refl, le-of-suc-le-suc, not-suc-le-zero}
+use native.Mathlib.Nat.{zero-add, le-refl}
 use native.Mathlib.Omega.{arith}
 use mathlib.Core.Path.{_≡_, _∙_, refl, sym, ap}
 use mathlib.Core.List.{List, [], _∷_, _++_}
 use lib.ListN.{length, take, drop, length-take, length-replicate}
 use Rattle.model.specs.Lists.{zeros, padded}
+use Rattle.model.proofs.ListLaws.{take-zeros}
 use Rattle.script.specs.Place.{over, placed}
 use Rattle.script.proofs.Appending.{placed-room}
-
-take-zeros : (k n : ℕ) → k ≤ n → take k (zeros n) ≡ zeros k
-take-zeros zero n h = refl
-take-zeros (suc k) zero h = absurd (not-suc-le-zero h)
-take-zeros (suc k) (suc n) h = ap (λ (l : List ℕ). 0 ∷ l) (take-zeros k n (le-of-suc-le-suc h))
 
 -- at most n of a list, and the zeros that are left of n
 filled-up : (n p : ℕ) (m : List ℕ) → n ≤ p → take n (m ++ zeros p) ≡ take n m ++ drop (length (take n m)) (zeros n)

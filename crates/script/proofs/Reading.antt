@@ -16,7 +16,7 @@ use Rattle.model.specs.declared.call.Cursor.{Cursor}
 use Rattle.model.specs.declared.call.Read.{Read}
 use Rattle.model.specs.declared.call.Read.the-variants.{Record, Stop}
 use Rattle.model.specs.Lists.{_!_}
-use Rattle.model.specs.Record.{Row, kinds, rowOf, field, readHere, readRecord, messageHere, messageAt}
+use Rattle.model.specs.Record.{Row, kinds, rowOf, field, readHere, readRecord, messageHere, recordMessage}
 use Rattle.script.specs.Body.{made, callIn}
 use Rattle.script.proofs.Rows.{Known, KnownParts, fields-fit, made-of-three, call-agrees}
 
@@ -111,8 +111,8 @@ module _ (script : List ℕ) (at : ℕ) where
   unfolding readRecord readHere
   stop-at-end h = rw (drop-of-length-le script {i = at} h)
 
-  pub no-message-at-end : length script ≤ at → messageAt script at ≡ []
-  unfolding messageAt messageHere
+  pub no-message-at-end : length script ≤ at → recordMessage script at ≡ []
+  unfolding recordMessage messageHere
   no-message-at-end h = rw (drop-of-length-le script {i = at} h)
 
   module _ (h : at < length script) where
@@ -123,8 +123,8 @@ module _ (script : List ℕ) (at : ℕ) where
     unfolding readRecord
     read-at = ap (readHere at) from-here
 
-    pub message-at : messageAt script at ≡ messageHere (script ! at ∷ drop (at + 1) script)
-    unfolding messageAt
+    pub message-at : recordMessage script at ≡ messageHere (script ! at ∷ drop (at + 1) script)
+    unfolding recordMessage
     message-at = ap messageHere from-here
 
 -- a kind of the table at a place: its body is cut, or the record is whole
@@ -152,7 +152,7 @@ module _ (script : List ℕ) (at n : ℕ) (h : at < length script) (known : Know
 
 -- the message lies behind the fields
 pub message-of-parts : (script : List ℕ) (at f m : ℕ) → at < length script → KnownParts (rowOf (script ! at)) f m
-    → take m (drop (at + 1 + f) script) ≡ messageAt script at
+    → take m (drop (at + 1 + f) script) ≡ recordMessage script at
 message-of-parts script at f m h known =
     sym (message-at script at h
     ∙ message-here at (script ! at) (drop (at + 1) script) (known .row) (known .is)

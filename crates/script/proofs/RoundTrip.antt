@@ -15,7 +15,7 @@ use Rattle.model.specs.declared.call.Cursor.{Cursor}
 use Rattle.model.specs.declared.call.Read.the-variants.{Record}
 use Rattle.model.specs.Lists.{_!_, joined, countFrom}
 use Rattle.model.specs.Code.{bytes4, number4, signed, bits, codeBytes}
-use Rattle.model.specs.Record.{rowOf, field, readHere, readRecord, messageHere, messageAt, kindOf, fieldsOf, recordBytes}
+use Rattle.model.specs.Record.{Fit, FieldsFit, rowOf, field, readHere, readRecord, messageHere, recordMessage, kindOf, fieldsOf, recordBytes}
 use Rattle.script.specs.Body.{fieldAt}
 use Rattle.script.specs.declared.writer.Wrote.the-variants.{Next}
 use Rattle.script.specs.Place.{over}
@@ -25,13 +25,9 @@ use Rattle.script.proofs.Rows.{row-kind, fields-fit, kind-made, fields-
 use Rattle.script.proofs.Reading.{whole-here, message-here, WasRead, was-read}
 use Rattle.script.proofs.Writing.{CallRow, call-row, length-fields, record-length, message-length, written, WasWritten, was-written}
 
--- every entry is a byte; every number fits 32 bits
+-- every entry is a byte
 abbrev pub Bytes : List ℕ → Type 0
 Bytes bytes = (i : ℕ) → bytes ! i < 256
-
-abbrev pub Fit : List ℤ → Type 0
-Fit [] = Unit {0}
-Fit (z ∷ zs) = (mag z < 2 ^ 31) × Fit zs
 
 -- one field, from the number and from the bytes
 bits-fit : (z : ℤ) → mag z < 2 ^ 31 → bits z < 2 ^ 32
@@ -121,7 +117,7 @@ fields-write (suc n) (a ∷ b ∷ c ∷ d ∷ rest) bytes h =
     ∙ ap (λ (k : ℕ). take k body) e
 
 -- what is written reads back as the call, with the message that was handed over, whatever stands behind it
-module _ (at : ℕ) (c : Call) (message rest : List ℕ) (fit : Fit (fieldsOf c)) (size : length message ≡ messageLength (kindOf c)) where
+module _ (at : ℕ) (c : Call) (message rest : List ℕ) (fit : FieldsFit c) (size : length message ≡ messageLength (kindOf c)) where
   abbrev fields : List ℕ
   fields = joined (map codeBytes (fieldsOf c))
 
@@ -200,7 +196,7 @@ from-place area at bytes h =
     ap (drop at) (append-assoc (take at area) bytes (drop (at + length bytes) area))
     ∙ drop-at (take at area) (bytes ++ drop (at + length bytes) area) at (length-take-le at area h)
 
-module _ (area : List ℕ) (at : ℕ) (c : Call) (message after : List ℕ) (next : ℕ) (fit : Fit (fieldsOf c)) (w : Writes area at c message after (Next next)) where
+module _ (area : List ℕ) (at : ℕ) (c : Call) (message after : List ℕ) (next : ℕ) (fit : FieldsFit c) (w : Writes area at c message after (Next next)) where
   was : WasWritten area at c message after next
   was = was-written area at c message after next w
 
@@ -214,8 +210,8 @@ module _ (area : List ℕ) (at : ℕ) (c : Call) (message after : List ℕ) (nex
       ∙ written-reads at c message (drop (at + length (recordBytes c message)) area) fit (was .size)
       ∙ ap (λ (n : ℕ). Record c (record { at = n })) (was .end)
 
-  pub write-then-message : messageAt after at ≡ message
-  unfolding messageAt
+  pub write-then-message : recordMessage after at ≡ message
+  unfolding recordMessage
   write-then-message =
       ap messageHere from ∙ message-reads at c message (drop (at + length (recordBytes c message)) area) fit (was .size)
 
@@ -249,8 +245,8 @@ again script at n h =
     ∙ take-append-drop (at + n) script
 
 module _ (script : List ℕ) (at : ℕ) (c : Call) (next : Cursor) (all : Bytes script) (e : readRecord script at ≡ Record c next) where
-  pub read-then-write : Writes script at c (messageAt script at) script (Next (next .at))
-  unfolding readRecord messageAt
+  pub read-then-write : Writes script at c (recordMessage script at) script (Next (next .at))
+  unfolding readRecord recordMessage
   read-then-write =
       let bytes = drop at script in
       let m = messageHere bytes in

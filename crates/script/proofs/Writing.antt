@@ -18,7 +18,7 @@ use Rattle.script.specs.declared.writer.Wrote.{Wrote}
 use Rattle.script.specs.declared.writer.Wrote.the-variants.{Next, NoRoom, WrongMessage}
 use Rattle.script.specs.Place.{room, over, Appends}
 use Rattle.script.specs.Body.{fieldAt}
-use Rattle.script.specs.Write.{messageLength, wrote, rewritten, Writes, headOf, headBytes}
+use Rattle.script.specs.Write.{messageLength, wrote, rewritten, Writes, callHead, headBytes}
 use Rattle.script.proofs.Rows.{KnownParts, fields-few}
 use Rattle.script.proofs.Appending.{placed-room, next-room}
 
@@ -74,11 +74,11 @@ three (a ∷ b ∷ []) h = refl
 three (a ∷ b ∷ c ∷ []) h = refl
 three (a ∷ b ∷ c ∷ d ∷ fs) h = absurd (omega arith)
 
-pub head-begins : (c : Call) → take (1 + 4 * length (fieldsOf c)) (headBytes (headOf c)) ≡ kindOf c ∷ joined (map codeBytes (fieldsOf c))
-unfolding headOf
+pub head-begins : (c : Call) → take (1 + 4 * length (fieldsOf c)) (headBytes (callHead c)) ≡ kindOf c ∷ joined (map codeBytes (fieldsOf c))
+unfolding callHead
 head-begins c =
     let e : 1 + 4 * length (fieldsOf c) ≡ suc (4 * length (fieldsOf c)) = omega arith in
-    ap (λ (n : ℕ). take n (headBytes (headOf c))) e ∙ ap (λ (bytes : List ℕ). kindOf c ∷ bytes) (three (fieldsOf c) (few c))
+    ap (λ (n : ℕ). take n (headBytes (callHead c))) e ∙ ap (λ (bytes : List ℕ). kindOf c ∷ bytes) (three (fieldsOf c) (few c))
 
 pub length-fields : (fs : List ℤ) → length (joined (map codeBytes fs)) ≡ 4 * length fs
 length-fields [] = refl

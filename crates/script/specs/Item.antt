@@ -1,13 +1,8 @@
--- The items of a log that `model` gives only as a part of another.
+-- The item of a log that `model` gives only as a part of another.
 use Prim.Native.Nat.{ℕ}
-use mathlib.Core.List.{List, [], _∷_}
 use lib.IntN.{ℤ}
 use Rattle.model.specs.World.{Ended, Nothing}
 
 -- "83 + task (1) + code (4)": an ended wait, before what it delivers
 abbrev pub endedWith : ℕ → ℤ → Ended
 endedWith task code = record { task = task; code = code; delivery = Nothing }
-
--- "A script above 16,384 bytes logs 8D alone."
-abbrev pub tooLongBytes : List ℕ
-tooLongBytes = 0x8D ∷ []

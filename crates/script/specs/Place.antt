@@ -2,19 +2,16 @@
 use Prim.Native.Nat.{ℕ, _+_}
 use mathlib.Core.Path.{_≡_}
 use mathlib.Core.Bool.{Bool, cond}
-use mathlib.Core.List.{List, _++_}
-use lib.ListN.{length, take, drop}
+use mathlib.Core.List.{List}
+use lib.ListN.{length}
 use lib.Dec.{leb}
+unfoldable pub use Rattle.model.specs.Message.{over}
 
 -- there is room for n bytes from a place on
 abbrev pub room : ℕ → ℕ → ℕ → Bool
 room size at n = leb (at + n) size
 
--- the area with bytes at a place
-unfoldable pub over : List ℕ → ℕ → List ℕ → List ℕ
-over area at bytes = take at area ++ bytes ++ drop (at + length bytes) area
-
--- the same where there is room for them, else the area as it came
+-- the area with bytes put over it at a place where there is room for them, else the area as it came
 unfoldable pub placed : List ℕ → ℕ → List ℕ → List ℕ
 placed area at bytes = cond (room (length area) at (length bytes)) (over area at bytes) area
 

@@ -39,8 +39,8 @@ pub record Writes (before : List ℕ) (at : ℕ) (c : Call) (message after : Lis
   pub area : after ≡ rewritten before at c message
 
 -- a call as the writer takes it apart: its kind and its first three fields, and their bytes
-unfoldable pub headOf : Call → Head
-headOf c = record { 0 = kindOf c; 1 = fieldAt (fieldsOf c) 0; 2 = fieldAt (fieldsOf c) 1; 3 = fieldAt (fieldsOf c) 2 }
+unfoldable pub callHead : Call → Head
+callHead c = record { 0 = kindOf c; 1 = fieldAt (fieldsOf c) 0; 2 = fieldAt (fieldsOf c) 1; 3 = fieldAt (fieldsOf c) 2 }
 
 abbrev pub headBytes : Head → List ℕ
 headBytes h = h .0 ∷ codeBytes (h .1) ++ codeBytes (h .2) ++ codeBytes (h .3)

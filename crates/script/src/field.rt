@@ -1,15 +1,9 @@
 // Fields: signed numbers of 32 bits, the least byte first.
-use super::place::byte;
+use model::bytes::byte;
+use model::bytes::number4;
 ghost use mathlib.Core.Path.{_≡_};
-ghost use Rattle.model.specs.Code.{number4, signed, bits, bytes4, codeBytes};
+ghost use Rattle.model.specs.Code.{signed, bits, bytes4, codeBytes};
 ghost use Rattle.model.specs.Record;
-
-// Four bytes as a number.
-fn number(a: u8, b: u8, c: u8, d: u8) -> u32
-    ensures { λ r. ⌜ r ≡ number4 a b c d ⌝ }
-{
-    a as u32 + b as u32 * 256 + c as u32 * 65536 + d as u32 * 16777216
-}
 
 // 32 bits as a signed number: from 2^31 on they stand for one below zero.
 fn signed_number(n: u32) -> i32
@@ -35,7 +29,7 @@ pub fn field(body: &[u8], i: usize) -> i32
     let second = byte(body, at + 1);
     let third = byte(body, at + 2);
     let high = byte(body, at + 3);
-    signed_number(number(low, second, third, high))
+    signed_number(number4(low, second, third, high))
 }
 
 // The bits of a signed number.

@@ -6,15 +6,17 @@ use super::place::part;
 use super::place::put;
 use super::place::put_two;
 use model::call::Answer;
+use model::number::MaybeTask;
+use model::number::TaskNumber;
 use model::sizes::MESSAGE_BYTES;
 ghost use mathlib.Core.Path.{_≡_};
 ghost use Rattle.model.specs.Sizes.{messageBytes};
 ghost use Rattle.model.specs.Lists.{padded};
 ghost use Rattle.model.specs.World.{Message, Block};
-ghost use Rattle.model.specs.Log.{answerBytes, endedBytes, deliveryBytes, runsBytes};
-ghost use Rattle.model.specs.Script.{stopBytes};
+ghost use Rattle.model.specs.Number.{taskWord};
+ghost use Rattle.model.specs.Log.{answerBytes, endedBytes, deliveryBytes, runsBytes, stopBytes, tooLongBytes};
 ghost use Rattle.script.specs.Place.{Appends};
-ghost use Rattle.script.specs.Item.{endedWith, tooLongBytes};
+ghost use Rattle.script.specs.Item.{endedWith};
 
 // What the call is answered with.
 pub fn log_answer(area: &mut [u8], at: usize, answer: Answer) -> usize
@@ -28,10 +30,10 @@ pub fn log_answer(area: &mut [u8], at: usize, answer: Answer) -> usize
 }
 
 // A wait that has ended with a code, before what it delivers.
-pub fn log_ended(area: &mut [u8], at: usize, task: u8, code: i32) -> usize
-    ensures { λ r. ⌜ Appends (now (area .entry)) at (endedBytes (endedWith task code)) (now (area .exit)) r ⌝ }
+pub fn log_ended(area: &mut [u8], at: usize, task: TaskNumber, code: i32) -> usize
+    ensures { λ r. ⌜ Appends (now (area .entry)) at (endedBytes (endedWith (task .0) code)) (now (area .exit)) r ⌝ }
 {
-    put_two(area, at, &[0x83, task], &field_bytes(code))
+    put_two(area, at, &[0x83, task.byte()], &field_bytes(code))
 }
 
 // A message in as many bytes as a send's record has, zeros behind it.
@@ -44,24 +46,29 @@ fn filled(message: &[u8]) -> [u8; MESSAGE_BYTES]
 }
 
 // A message that a task received.
-pub fn log_message(area: &mut [u8], at: usize, task: u8, message: &[u8]) -> usize
-    ensures { λ r. ⌜ Appends (now (area .entry)) at (deliveryBytes task (Message (now (message .entry)))) (now (area .exit)) r ⌝ }
+pub fn log_message(area: &mut [u8], at: usize, task: TaskNumber, message: &[u8]) -> usize
+    ensures { λ r. ⌜ Appends (now (area .entry)) at (deliveryBytes (task .0) (Message (now (message .entry)))) (now (area .exit)) r ⌝ }
 {
-    put_two(area, at, &[0x84, task], &filled(message))
+    put_two(area, at, &[0x84, task.byte()], &filled(message))
 }
 
 // A block that a task got.
-pub fn log_block(area: &mut [u8], at: usize, task: u8, block: u32) -> usize
-    ensures { λ r. ⌜ Appends (now (area .entry)) at (deliveryBytes task (Block block)) (now (area .exit)) r ⌝ }
+pub fn log_block(area: &mut [u8], at: usize, task: TaskNumber, block: u32) -> usize
+    ensures { λ r. ⌜ Appends (now (area .entry)) at (deliveryBytes (task .0) (Block block)) (now (area .exit)) r ⌝ }
 {
-    put_two(area, at, &[0x85, task], &number_bytes(block as usize))
+    put_two(
+        area,
+        at,
+        &[0x85, task.byte()],
+        &number_bytes(block as usize),
+    )
 }
 
 // The task that runs, 0 for none.
-pub fn log_runs(area: &mut [u8], at: usize, task: u8) -> usize
-    ensures { λ r. ⌜ Appends (now (area .entry)) at (runsBytes task) (now (area .exit)) r ⌝ }
+pub fn log_runs(area: &mut [u8], at: usize, task: MaybeTask) -> usize
+    ensures { λ r. ⌜ Appends (now (area .entry)) at (runsBytes (taskWord task)) (now (area .exit)) r ⌝ }
 {
-    put(area, at, &[0x8f, task])
+    put(area, at, &[0x8f, task.byte()])
 }
 
 // A script that stops at an offset.

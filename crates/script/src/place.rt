@@ -1,16 +1,8 @@
-// Bytes at a place of a slice: read wherever the place is, and written whole or not at all.
+// A part of a slice at a place, wherever the place is, and bytes written there, whole or not at all.
 ghost use mathlib.Core.Path.{_≡_};
 ghost use mathlib.Core.List.{_++_};
 ghost use lib.ListN.{take, drop};
-ghost use Rattle.model.specs.Lists.{_!_};
 ghost use Rattle.script.specs.Place;
-
-// The byte at a place, 0 beyond the end.
-pub fn byte(s: &[u8], at: usize) -> u8
-    ensures { λ r. ⌜ r ≡ now (s .entry) ! at ⌝ }
-{
-    if at < s.len() { s[at] } else { 0 }
-}
 
 // At most n bytes from a place on: fewer near the end, none beyond it.
 pub fn part(s: &[u8], at: usize, n: usize) -> &[u8]

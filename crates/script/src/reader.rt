@@ -7,10 +7,28 @@ use model::call::Call;
 use model::call::Cursor;
 use model::call::Read;
 use model::kind::BodyLength;
+use model::kind::CHG_PRI;
+use model::kind::CRE_MBF;
+use model::kind::CRE_MPF;
+use model::kind::CRE_MTX;
+use model::kind::CRE_TSK;
+use model::kind::DEL_MBF;
+use model::kind::DEL_MPF;
+use model::kind::DEL_MTX;
+use model::kind::DEL_TSK;
+use model::kind::EXT_TSK;
+use model::kind::GET_MPF;
+use model::kind::LOC_MTX;
+use model::kind::RCV_MBF;
+use model::kind::REL_MPF;
+use model::kind::SND_MBF;
+use model::kind::STA_TSK;
+use model::kind::TER_TSK;
+use model::kind::UNL_MTX;
 use model::kind::body_length;
 ghost use mathlib.Core.Path.{_≡_};
 ghost use mathlib.Core.List.{[], _∷_};
-ghost use Rattle.model.specs.Record.{kinds, readRecord, messageAt};
+ghost use Rattle.model.specs.Record.{kinds, readRecord, recordMessage};
 ghost use Rattle.script.specs.Body.{callIn, fromMutexes, fromBuffers, fromPools};
 
 // The record at a cursor: the call, and the place after the record. Where its kind is unknown or its body is cut, or where no byte
@@ -42,7 +60,7 @@ pub fn read_record(script: &[u8], c: Cursor) -> Read
 
 // The message of the record at a cursor, as it lies in the script: empty where it has none.
 pub fn message<'a>(script: &'a [u8], c: Cursor) -> &'a [u8]
-    ensures { λ r. ⌜ now r ≡ messageAt (now (script .entry)) (c .at) ⌝ }
+    ensures { λ r. ⌜ now r ≡ recordMessage (now (script .entry)) (c .at) ⌝ }
 {
     let at = c.at;
     if script.len() <= at {
@@ -59,12 +77,12 @@ fn call_of(kind: u8, a: i32, b: i32, c: i32) -> Call
     ensures { λ r. ⌜ r ≡ callIn kinds kind (a ∷ b ∷ c ∷ []) ⌝ }
 {
     match kind {
-        0x01 => Call::CreTsk { priority: a },
-        0x02 => Call::DelTsk { task: a },
-        0x03 => Call::StaTsk { task: a },
-        0x04 => Call::ExtTsk,
-        0x05 => Call::TerTsk { task: a },
-        0x06 => Call::ChgPri {
+        CRE_TSK => Call::CreTsk { priority: a },
+        DEL_TSK => Call::DelTsk { task: a },
+        STA_TSK => Call::StaTsk { task: a },
+        EXT_TSK => Call::ExtTsk,
+        TER_TSK => Call::TerTsk { task: a },
+        CHG_PRI => Call::ChgPri {
             task: a,
             priority: b,
         },
@@ -76,16 +94,16 @@ fn mutex_call(kind: u8, a: i32, b: i32, c: i32) -> Call
     ensures { λ r. ⌜ r ≡ callIn fromMutexes kind (a ∷ b ∷ c ∷ []) ⌝ }
 {
     match kind {
-        0x10 => Call::CreMtx {
+        CRE_MTX => Call::CreMtx {
             attribute: a,
             ceiling: b,
         },
-        0x11 => Call::DelMtx { mutex: a },
-        0x12 => Call::LocMtx {
+        DEL_MTX => Call::DelMtx { mutex: a },
+        LOC_MTX => Call::LocMtx {
             mutex: a,
             timeout: b,
         },
-        0x13 => Call::UnlMtx { mutex: a },
+        UNL_MTX => Call::UnlMtx { mutex: a },
         _ => buffer_call(kind, a, b, c),
     }
 }
@@ -94,18 +112,18 @@ fn buffer_call(kind: u8, a: i32, b: i32, c: i32) -> Call
     ensures { λ r. ⌜ r ≡ callIn fromBuffers kind (a ∷ b ∷ c ∷ []) ⌝ }
 {
     match kind {
-        0x20 => Call::CreMbf {
+        CRE_MBF => Call::CreMbf {
             attribute: a,
             bufsz: b,
             maxmsz: c,
         },
-        0x21 => Call::DelMbf { buffer: a },
-        0x22 => Call::SndMbf {
+        DEL_MBF => Call::DelMbf { buffer: a },
+        SND_MBF => Call::SndMbf {
             buffer: a,
             msgsz: b,
             timeout: c,
         },
-        0x23 => Call::RcvMbf {
+        RCV_MBF => Call::RcvMbf {
             buffer: a,
             timeout: b,
         },
@@ -117,17 +135,17 @@ fn pool_call(kind: u8, a: i32, b: i32, c: i32) -> Call
     ensures { λ r. ⌜ r ≡ callIn fromPools kind (a ∷ b ∷ c ∷ []) ⌝ }
 {
     match kind {
-        0x30 => Call::CreMpf {
+        CRE_MPF => Call::CreMpf {
             attribute: a,
             count: b,
             size: c,
         },
-        0x31 => Call::DelMpf { pool: a },
-        0x32 => Call::GetMpf {
+        DEL_MPF => Call::DelMpf { pool: a },
+        GET_MPF => Call::GetMpf {
             pool: a,
             timeout: b,
         },
-        0x33 => Call::RelMpf { pool: a, block: b },
+        REL_MPF => Call::RelMpf { pool: a, block: b },
         _ => Call::Tick,
     }
 }

@@ -5,8 +5,27 @@ use super::field::field_bytes;
 use super::place::put_two;
 use super::place::room;
 use model::call::Call;
+use model::kind::CHG_PRI;
+use model::kind::CRE_MBF;
+use model::kind::CRE_MPF;
+use model::kind::CRE_MTX;
+use model::kind::CRE_TSK;
+use model::kind::DEL_MBF;
+use model::kind::DEL_MPF;
+use model::kind::DEL_MTX;
+use model::kind::DEL_TSK;
+use model::kind::EXT_TSK;
+use model::kind::GET_MPF;
+use model::kind::LOC_MTX;
+use model::kind::RCV_MBF;
+use model::kind::REL_MPF;
+use model::kind::SND_MBF;
+use model::kind::STA_TSK;
+use model::kind::TER_TSK;
+use model::kind::TICK;
+use model::kind::UNL_MTX;
 ghost use mathlib.Core.Path.{_≡_};
-ghost use Rattle.script.specs.Write.{headOf, headBytes, Writes};
+ghost use Rattle.script.specs.Write.{callHead, headBytes, Writes};
 
 // What became of a record: written, with the place after it, or refused with nothing written.
 pub enum Wrote {
@@ -19,7 +38,7 @@ pub enum Wrote {
 pub fn write_record(area: &mut [u8], at: usize, call: Call, message: &[u8]) -> Wrote
     ensures { λ r. ⌜ Writes (now (area .entry)) at call (now (message .entry)) (now (area .exit)) r ⌝ }
 {
-    let head = head_of(call);
+    let head = call_head(call);
     // every call's kind is in the table
     let Body::Parts {
         fields,
@@ -42,41 +61,41 @@ pub fn write_record(area: &mut [u8], at: usize, call: Call, message: &[u8]) -> W
 // A call's kind and fields, 0 for each field fewer than three.
 struct Head(u8, i32, i32, i32);
 
-fn head_of(call: Call) -> Head
-    ensures { λ r. ⌜ r ≡ headOf call ⌝ }
+fn call_head(call: Call) -> Head
+    ensures { λ r. ⌜ r ≡ callHead call ⌝ }
 {
     match call {
-        Call::CreTsk { priority } => Head(0x01, priority, 0, 0),
-        Call::DelTsk { task } => Head(0x02, task, 0, 0),
-        Call::StaTsk { task } => Head(0x03, task, 0, 0),
-        Call::ExtTsk => Head(0x04, 0, 0, 0),
-        Call::TerTsk { task } => Head(0x05, task, 0, 0),
-        Call::ChgPri { task, priority } => Head(0x06, task, priority, 0),
-        Call::CreMtx { attribute, ceiling } => Head(0x10, attribute, ceiling, 0),
-        Call::DelMtx { mutex } => Head(0x11, mutex, 0, 0),
-        Call::LocMtx { mutex, timeout } => Head(0x12, mutex, timeout, 0),
-        Call::UnlMtx { mutex } => Head(0x13, mutex, 0, 0),
+        Call::CreTsk { priority } => Head(CRE_TSK, priority, 0, 0),
+        Call::DelTsk { task } => Head(DEL_TSK, task, 0, 0),
+        Call::StaTsk { task } => Head(STA_TSK, task, 0, 0),
+        Call::ExtTsk => Head(EXT_TSK, 0, 0, 0),
+        Call::TerTsk { task } => Head(TER_TSK, task, 0, 0),
+        Call::ChgPri { task, priority } => Head(CHG_PRI, task, priority, 0),
+        Call::CreMtx { attribute, ceiling } => Head(CRE_MTX, attribute, ceiling, 0),
+        Call::DelMtx { mutex } => Head(DEL_MTX, mutex, 0, 0),
+        Call::LocMtx { mutex, timeout } => Head(LOC_MTX, mutex, timeout, 0),
+        Call::UnlMtx { mutex } => Head(UNL_MTX, mutex, 0, 0),
         Call::CreMbf {
             attribute,
             bufsz,
             maxmsz,
-        } => Head(0x20, attribute, bufsz, maxmsz),
-        Call::DelMbf { buffer } => Head(0x21, buffer, 0, 0),
+        } => Head(CRE_MBF, attribute, bufsz, maxmsz),
+        Call::DelMbf { buffer } => Head(DEL_MBF, buffer, 0, 0),
         Call::SndMbf {
             buffer,
             msgsz,
             timeout,
-        } => Head(0x22, buffer, msgsz, timeout),
-        Call::RcvMbf { buffer, timeout } => Head(0x23, buffer, timeout, 0),
+        } => Head(SND_MBF, buffer, msgsz, timeout),
+        Call::RcvMbf { buffer, timeout } => Head(RCV_MBF, buffer, timeout, 0),
         Call::CreMpf {
             attribute,
             count,
             size,
-        } => Head(0x30, attribute, count, size),
-        Call::DelMpf { pool } => Head(0x31, pool, 0, 0),
-        Call::GetMpf { pool, timeout } => Head(0x32, pool, timeout, 0),
-        Call::RelMpf { pool, block } => Head(0x33, pool, block, 0),
-        Call::Tick => Head(0x40, 0, 0, 0),
+        } => Head(CRE_MPF, attribute, count, size),
+        Call::DelMpf { pool } => Head(DEL_MPF, pool, 0, 0),
+        Call::GetMpf { pool, timeout } => Head(GET_MPF, pool, timeout, 0),
+        Call::RelMpf { pool, block } => Head(REL_MPF, pool, block, 0),
+        Call::Tick => Head(TICK, 0, 0, 0),
     }
 }
 

@@ -47,8 +47,8 @@ add-byte-3 c = search needs
 byte-requires-4 : tie.Need-byte-requires-4
 byte-requires-4 c κs = search needs
 
-number-requires : tie.Need-number-requires
-number-requires c κs = search needs
+number4-requires : tie.Need-number4-requires
+number4-requires c κs = search needs
 
 signed-number-requires : tie.Need-signed-number-requires
 signed-number-requires c κs = search needs
@@ -70,6 +70,6 @@ field-spec =
     byte-requires-3
     add-byte-3
     byte-requires-4
-    number-requires
+    number4-requires
     signed-number-requires
     returns-2)

@@ -11,7 +11,7 @@ use Rattle.model.specs.declared.call.Call.{Call}
 use Rattle.model.specs.Record.{rowOf, kindOf, fieldsOf, recordBytes}
 use Rattle.script.specs.declared.writer.Head.{Head}
 use Rattle.script.specs.Body.{bodyParts}
-use Rattle.script.specs.Write.{messageLength, headOf, headBytes}
+use Rattle.script.specs.Write.{messageLength, callHead, headBytes}
 use Rattle.script.proofs.Rows.{none-is-not-some, KnownParts, row-of-parts, row-of-no-parts}
 use Rattle.script.proofs.Writing.{call-row, few, head-begins, record-length, wrong, no-room, appended, fields-of-call, message-of-call}
 use Rattle.script.proofs.writer.write_record.Statement.{statement}
@@ -22,8 +22,8 @@ start c = c .before .before .before .before
 
 -- the parts are those of the call's kind
 split : (c : tie.After-body-parts) → c .body-parts .result ≡ bodyParts (kindOf (start c .args .call))
-unfolding headOf
-split c = c .body-parts .ensures ∙ ap (λ (h : Head). bodyParts (h .0)) (c .before .head-of .ensures)
+unfolding callHead
+split c = c .body-parts .ensures ∙ ap (λ (h : Head). bodyParts (h .0)) (c .before .call-head .ensures)
 
 module _ (c : tie.After-known-told) where
   abbrev call : Call
@@ -62,12 +62,12 @@ module _ (c : tie.After-head-bytes) where
   unfolding recordBytes
   bytes-are message =
       ap (λ (bytes : List ℕ). bytes ++ message)
-      (ap (take (1 + fields known)) (c .head-bytes .ensures ∙ ap headBytes (known .before .before .before .before .head-of .ensures))
-      ∙ ap (λ (n : ℕ). take (1 + n) (headBytes (headOf (call known)))) (fields-are known)
+      (ap (take (1 + fields known)) (c .head-bytes .ensures ∙ ap headBytes (known .before .before .before .before .call-head .ensures))
+      ∙ ap (λ (n : ℕ). take (1 + n) (headBytes (callHead (call known)))) (fields-are known)
       ∙ head-begins (call known))
 
-head-of-requires : tie.Need-head-of-requires
-head-of-requires c κs = search needs
+call-head-requires : tie.Need-call-head-requires
+call-head-requires c κs = search needs
 
 body-parts-requires : tie.Need-body-parts-requires
 body-parts-requires c κs = search needs
@@ -133,7 +133,7 @@ pub write-record-spec : {M : Type 1} → statement M
 write-record-spec =
     tie.close
     (tie.spec
-    head-of-requires
+    call-head-requires
     body-parts-requires
     enum-known-fields
     enum-told
