@@ -1,9 +1,10 @@
 #!/usr/bin/env python3
 """compare_definitions.py SEED COUNT RECORDS: run the definitions by antt on generated scripts.
 
-For each of COUNT scripts of at most RECORDS records that `reference/` generates from SEED, two things are stated and proved by
-computing: that `scriptLog` gives the log that the second program wrote, and that the ledger, fed the calls, answers and ended
-waits alone, has the kernel's current priorities, queue orders and running task after every record. Needs rt and cargo.
+For each of COUNT scripts of at most RECORDS records that `reference/` generates from SEED, three things are stated and proved by
+computing: that `scriptLog` gives the log that the second program wrote; that the step on lent words, record after record in one
+log area, gives the same; and that the ledger, fed the calls, answers and ended waits alone, has the kernel's current priorities,
+queue orders and running task after every record. Needs rt and cargo.
 Exit status 0 if every one holds."""
 import pathlib
 import shutil
@@ -14,17 +15,21 @@ import tempfile
 HEAD = """use Prim.Native.Nat.{ℕ, zero, suc}
 use mathlib.Core.Path.{_≡_, refl}
 use mathlib.Core.Bool.{Bool, true, false, _&&_}
-use mathlib.Core.List.{List, [], _∷_, map}
+use mathlib.Core.List.{List, [], _∷_, _++_, map}
 use mathlib.Core.Option.{Option·map}
-use lib.ListN.{length}
+use lib.ListN.{length, take, replicate}
 use lib.Dec.{leb, eqb}
 use Rattle.model.specs.declared.call.Read.the-variants.{Record, Stop}
-use Rattle.model.specs.Lists.{all, same, countFrom}
+use Rattle.model.specs.declared.call.Progress.the-variants.{Answered, Over, NoArea}
+use Rattle.model.specs.Sizes.{storeBytes, outboxBytes, logBytes}
+use Rattle.model.specs.Lists.{all, same, countFrom, zeros}
 use Rattle.model.specs.Facts.{queue}
-use Rattle.model.specs.Kernel.{Kernel}
+use Rattle.model.specs.Kernel.{Kernel, fresh}
+use Rattle.model.specs.Words.{words}
 use Rattle.model.specs.World.{Lent, running, queueOrder}
 use Rattle.model.specs.Step.{step, freshLent}
 use Rattle.model.specs.Record.{readRecord, recordMessage}
+use Rattle.model.specs.Lent.{Areas, lentRecord}
 use Rattle.model.specs.Compute.{compute}
 use Rattle.model.specs.Script.{scriptLog}
 use Rattle.model.specs.Ledger.{Ledger, %s}
@@ -33,6 +38,16 @@ abbrev agree : Kernel → Ledger → Bool
 agree k l =
     same (k .tasks .current) (ledgerPriorities l) && eqb (running k) (ledgerRuns l)
     && all (λ p. all (λ n. same (queueOrder k (queue p n)) (ledgerOrder l (queue p n))) (countFrom 0 9)) (countFrom 2 5)
+
+abbrev areas : Areas
+areas = record { words = words fresh; store = zeros storeBytes; outbox = zeros outboxBytes; log = replicate logBytes 170 }
+
+abbrev lentRun : ℕ → Areas → List ℕ → ℕ → List ℕ
+lentRun zero a s at = 0 ∷ []
+lentRun (suc n) a s at =
+    let w = lentRecord a s at in
+    take (w .written) (w .areas .log)
+    ++ elim (w .progress) [ Answered x next ↦ lentRun n (w .areas) s (next .at) | Over ↦ [] | NoArea ↦ 0 ∷ [] ]
 
 abbrev follow : ℕ → Lent → Ledger → List ℕ → ℕ → Bool
 follow zero x l s at = true
@@ -71,6 +86,7 @@ def main():
             script = numbers((scripts / f"{n}.script").read_bytes())
             log = numbers((scripts / f"{n}.log").read_bytes())
             text += f"log{n} : scriptLog {script} ≡ {log}\nunfolding scriptLog\nlog{n} = refl\n\n"
+            text += f"lent{n} : lentRun 20000 areas {script} 0 ≡ {log}\nunfolding compute\nlent{n} = refl\n\n"
             text += f"ledger{n} : follow 20000 freshLent freshLedger {script} 0 ≡ true\n"
             text += f"unfolding compute Option·map {' '.join(names)}\nledger{n} = refl\n\n"
         (crate / "specs/Compare.antt").write_text(text)

@@ -3,3 +3,4 @@ pub mod FlagLaws
 pub mod NumberLaws
 pub mod Table
 pub mod Loops
+pub mod ByCase

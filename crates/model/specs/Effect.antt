@@ -1,9 +1,9 @@
 -- 01, "Effects": what each call does once no refusal applies.
-use Prim.Native.Nat.{ℕ, zero, suc, _+_, _-_, pred}
-use mathlib.Core.Bool.{Bool, true, false, _&&_, _||_, not, cond}
-use mathlib.Core.List.{List, [], _∷_, _++_, foldl}
+use Prim.Native.Nat.{ℕ, _+_, _-_, pred}
+use mathlib.Core.Bool.{_||_, not, cond}
+use mathlib.Core.List.{List, _++_, foldl}
 use lib.ListN.{length, take}
-use lib.IntN.{ℤ, pos, negsuc}
+use lib.IntN.{ℤ, pos}
 use lib.Dec.{eqb}
 use Rattle.model.specs.declared.call.Call.{Call}
 use Rattle.model.specs.declared.call.Call.the-variants.{CreTsk, DelTsk, StaTsk, ExtTsk, TerTsk, ChgPri, CreMtx, DelMtx, LocMtx, UnlMtx, CreMbf, DelMbf, SndMbf, RcvMbf, CreMpf, DelMpf, GetMpf, RelMpf, Tick}

@@ -1,9 +1,7 @@
 -- 01, "Send" and "Receive": how messages lie in the store and in the outbox (01's sending bay).
-use Prim.Native.Nat.{ℕ, suc, pred, _+_, _*_, _-_, _/_, min}
-use mathlib.Core.Bool.{Bool, cond}
-use mathlib.Core.List.{List, [], _∷_, _++_}
+use Prim.Native.Nat.{ℕ, pred, _+_, _*_, _-_, _/_, min}
+use mathlib.Core.List.{List, _++_}
 use lib.ListN.{length, take, drop}
-use lib.Dec.{leb, eqb}
 use Rattle.model.specs.Sizes.{regionBytes, messageBytes}
 use Rattle.model.specs.Lists.{_!_, zeros, padded}
 use Rattle.model.specs.Code.{bytes4, number4}

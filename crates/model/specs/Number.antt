@@ -3,16 +3,12 @@ use Prim.Native.Nat.{ℕ}
 use mathlib.Core.Bool.{cond}
 use lib.Dec.{ltb, eqb}
 use lib.IntN.{ℤ, pos, negsuc}
-use Rattle.model.specs.declared.number.TaskNumber.{TaskNumber}
 use Rattle.model.specs.declared.number.MaybeTask.{MaybeTask}
 use Rattle.model.specs.declared.number.MaybeTask as mTask
-use Rattle.model.specs.declared.number.MutexNumber.{MutexNumber}
 use Rattle.model.specs.declared.number.MaybeMutex.{MaybeMutex}
 use Rattle.model.specs.declared.number.MaybeMutex as mMutex
-use Rattle.model.specs.declared.number.BufferNumber.{BufferNumber}
 use Rattle.model.specs.declared.number.MaybeBuffer.{MaybeBuffer}
 use Rattle.model.specs.declared.number.MaybeBuffer as mBuffer
-use Rattle.model.specs.declared.number.PoolNumber.{PoolNumber}
 use Rattle.model.specs.declared.number.MaybePool.{MaybePool}
 use Rattle.model.specs.declared.number.MaybePool as mPool
 

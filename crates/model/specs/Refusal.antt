@@ -1,18 +1,18 @@
 -- 01, "When the bench says no": for each call the conditions of the table, in its order; the first that applies refuses the
 -- call. Order 1 stands in Step. The message bytes are handed over too, whatever the call and however many they are.
-use Prim.Native.Nat.{ℕ, zero, suc, _+_, _*_}
+use Prim.Native.Nat.{ℕ, _+_, _*_}
 use mathlib.Core.Bool.{Bool, true, false, _&&_, _||_, not, cond}
 use mathlib.Core.List.{List, [], _∷_, map}
 use mathlib.Core.Option.{Option, none, some}
-use lib.IntN.{ℤ, pos, negsuc}
+use lib.IntN.{ℤ, pos}
 use lib.Signed.{ltZ, leZ}
-use lib.Dec.{eqb, leb, ltb}
+use lib.Dec.{eqb, ltb}
 use Rattle.model.specs.declared.call.Call.{Call}
 use Rattle.model.specs.declared.call.Call.the-variants.{CreTsk, DelTsk, StaTsk, ExtTsk, TerTsk, ChgPri, CreMtx, DelMtx, LocMtx, UnlMtx, CreMbf, DelMbf, SndMbf, RcvMbf, CreMpf, DelMpf, GetMpf, RelMpf, Tick}
 use Rattle.model.specs.Sizes.{tasks, mutexes, buffers, pools, blocks, priorities, messageBytes, regionBytes, blockBytes, poolBytes}
 use Rattle.model.specs.Lists.{_!_, upTo, any, member, sum, firstWhere}
 use Rattle.model.specs.Code.{E-CTX, E-RSATR, E-PAR, E-ID, E-NOEXS, E-OBJ, E-ILUSE, E-LIMIT, E-NOMEM, E-TMOUT, minus, number}
-use Rattle.model.specs.Facts.{queue, absent, dormant, locking, sending, receiving, getting, ceilinged}
+use Rattle.model.specs.Facts.{queue, absent, dormant, locking, sending, receiving, ceilinged}
 use Rattle.model.specs.Kernel.{Kernel, slot, standsIn}
 use Rattle.model.specs.World.{queueFront, headsQueue, running}
 use Rattle.model.specs.Message.{handed}

@@ -1,14 +1,13 @@
 -- 01, "The script and the log": a run of records, and a script.
 use Prim.Native.Nat.{ℕ, zero, suc}
 use mathlib.Core.Bool.{true, false}
-use mathlib.Core.List.{List, [], _∷_, _++_}
+use mathlib.Core.List.{List, [], _++_}
 use lib.ListN.{length}
 use lib.Dec.{leb, ltb}
-use Rattle.model.specs.declared.call.Read.{Read}
 use Rattle.model.specs.declared.call.Read.the-variants.{Record, Stop}
 use Rattle.model.specs.Sizes.{scriptBytes}
 use Rattle.model.specs.World.{Lent, running}
-use Rattle.model.specs.Step.{freshLent, Outcome, step}
+use Rattle.model.specs.Step.{freshLent, step}
 use Rattle.model.specs.Record.{readRecord, recordMessage}
 use Rattle.model.specs.Log.{outcomeLog, stopBytes, tooLongBytes}
 use Rattle.model.specs.Compute.{compute}

@@ -1,8 +1,8 @@
 -- One call, from any lent state and areas: not valid, refused, or carried out.
 use Prim.Native.Nat.{ℕ}
-use mathlib.Core.Bool.{Bool, true, false}
-use mathlib.Core.List.{List, [], _∷_}
-use mathlib.Core.Option.{Option, none, some}
+use mathlib.Core.Bool.{true, false}
+use mathlib.Core.List.{List, []}
+use mathlib.Core.Option.{none, some}
 use lib.IntN.{ℤ}
 use Rattle.model.specs.declared.call.Call.{Call}
 use Rattle.model.specs.declared.call.Answer.{Answer}
@@ -10,8 +10,8 @@ use Rattle.model.specs.declared.call.Answer.the-variants.{Code}
 use Rattle.model.specs.Sizes.{storeBytes, outboxBytes}
 use Rattle.model.specs.Lists.{zeros}
 use Rattle.model.specs.Code.{E-SYS}
-use Rattle.model.specs.Kernel.{Kernel, fresh}
-use Rattle.model.specs.World.{Lent, Delivery, Nothing, Ended, World, begun, lentOf, running}
+use Rattle.model.specs.Kernel.{fresh}
+use Rattle.model.specs.World.{Lent, Delivery, Nothing, Ended, begun, lentOf, running}
 use Rattle.model.specs.Refusal.{firstRefusal, refusals}
 use Rattle.model.specs.Effect.{Done, effect}
 use Rattle.model.specs.Valid.{valid}

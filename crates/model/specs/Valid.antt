@@ -9,10 +9,10 @@ use lib.ListN.{length, getD, take, drop}
 use lib.Dec.{eqb, leb, ltb}
 use Rattle.model.specs.Sizes.{tasks, priorities, mutexes, buffers, pools, blocks, messageBytes, regionBytes, blockBytes, poolBytes, storeBytes, outboxBytes, longest, endless}
 use Rattle.model.specs.Lists.{joined, _!_, countFrom, upTo, zeros, padded, sum, select, all, member, occurrences, same, allZero, implies, within}
-use Rattle.model.specs.Facts.{queue, absent, dormant, ready, locking, sending, receiving, getting, ceilinged}
+use Rattle.model.specs.Facts.{absent, dormant, ready, locking, sending, receiving, getting, ceilinged}
 use Rattle.model.specs.Priority.{effectives}
 use Rattle.model.specs.Kernel.{Kernel, facts, slot}
-use Rattle.model.specs.World.{Lent, queueFront}
+use Rattle.model.specs.World.{Lent}
 use Rattle.model.specs.Message.{cost, packed, oldestLength, part, region}
 use Rattle.model.specs.Act.{firstFits}
 use Rattle.model.specs.Refusal.{aboveCeiling, freeBlock, poolSum, mutexAttributes, bufferAttributes, poolAttributes}
