@@ -564,3 +564,34 @@ fn zero_filled(message: &[u8]) -> [u8; MESSAGE] {
     filled[..message.len()].copy_from_slice(message);
     filled
 }
+
+#[cfg(test)]
+mod tests {
+    use super::*;
+
+    /// A kernel whose stamps are nearly used up behaves like any other.
+    #[test]
+    fn arrivals_never_run_out() {
+        let mut plain = Kernel::fresh();
+        let mut worn = Kernel::fresh();
+        let (mut a, mut b) = (Outcome::default(), Outcome::default());
+        let mut calls = vec![Call::CreMbf { attribute: 1, bufsz: 0, maxmsz: 32 }];
+        for task in 2..=9 {
+            calls.push(Call::CreTsk { priority: 8 });
+            calls.push(Call::StaTsk { task });
+        }
+        for i in 0..200 {
+            calls.push(Call::ChgPri { task: 0, priority: 8 });
+            calls.push(Call::RcvMbf { buffer: 1, timeout: 3 + i % 5 });
+            calls.push(Call::Tick);
+        }
+        worn.next_arrival = u32::MAX - 150;
+        for call in &calls {
+            plain.run(call, &mut a);
+            worn.run(call, &mut b);
+            assert_eq!(a, b);
+            assert_eq!(plain.to_words(), worn.to_words());
+        }
+        assert!(worn.next_arrival < 10_000, "the stamps were taken anew");
+    }
+}

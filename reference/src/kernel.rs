@@ -2,6 +2,7 @@
 
 use crate::limits::*;
 use crate::number::{BufferNo, MutexNo, PoolNo, TaskNo, TaskSet};
+use crate::words::ENDLESS;
 
 /// Where a task stands.
 #[derive(Clone, Copy, PartialEq, Eq, Debug)]
@@ -218,6 +219,14 @@ impl Kernel {
         self.ready
     }
 
+    pub fn store(&self) -> &[u8] {
+        self.store.as_flattened()
+    }
+
+    pub fn outbox(&self) -> &[u8] {
+        self.outbox.as_flattened()
+    }
+
     // Queues.
 
     /// The first task of a queue.
@@ -365,38 +374,5 @@ impl Kernel {
                 _ => return,
             }
         }
-    }
-}
-
-#[cfg(test)]
-mod tests {
-    use super::*;
-    use crate::outcome::Outcome;
-    use crate::record::Call;
-
-    /// A kernel whose stamps are nearly used up behaves like any other.
-    #[test]
-    fn arrivals_never_run_out() {
-        let mut plain = Kernel::fresh();
-        let mut worn = Kernel::fresh();
-        let (mut a, mut b) = (Outcome::default(), Outcome::default());
-        let mut calls = vec![Call::CreMbf { attribute: 1, bufsz: 0, maxmsz: 32 }];
-        for task in 2..=9 {
-            calls.push(Call::CreTsk { priority: 8 });
-            calls.push(Call::StaTsk { task });
-        }
-        for i in 0..200 {
-            calls.push(Call::ChgPri { task: 0, priority: 8 });
-            calls.push(Call::RcvMbf { buffer: 1, timeout: 3 + i % 5 });
-            calls.push(Call::Tick);
-        }
-        worn.next_arrival = u32::MAX - 150;
-        for call in &calls {
-            plain.run(call, &mut a);
-            worn.run(call, &mut b);
-            assert_eq!(a, b);
-            assert_eq!(plain.to_words(), worn.to_words());
-        }
-        assert!(worn.next_arrival < 10_000, "the stamps were taken anew");
     }
 }

@@ -36,9 +36,6 @@ pub const SCRIPT: usize = 16384;
 /// Bytes of the lent log area of one record.
 pub const LOG: usize = 512;
 
-/// Milliseconds left of a wait without end.
-pub const ENDLESS: u32 = u32::MAX;
-
 /// Mutex attributes.
 pub const MUTEX_FIFO: u8 = 0;
 pub const MUTEX_INHERIT: u8 = 2;

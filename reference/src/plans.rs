@@ -1,6 +1,6 @@
 //! Longer plans of the generator: situations that single random calls seldom make.
 
-use crate::generator::{number, Generator};
+use crate::calls::{number, CallMaker};
 use crate::kernel::Order;
 use crate::limits::{MUTEX_CEILING, MUTEX_INHERIT};
 use crate::number::{BufferNo, MutexNo, TaskNo};
@@ -23,9 +23,9 @@ impl Step {
     }
 }
 
-impl Generator<'_> {
-    /// Begins a plan if the kernel has what it takes.
-    pub(crate) fn make_plan(&mut self) {
+impl CallMaker {
+    /// A plan, if the kernel has what it takes.
+    pub fn plan(&mut self) -> Vec<Step> {
         let plan = match self.random.below(8) {
             0 | 1 => self.chain(true),
             2 => self.chain(false),
@@ -35,7 +35,7 @@ impl Generator<'_> {
             6 => self.awaited_ceiling(),
             _ => self.terminated_in_circle(),
         };
-        self.plan.extend(plan.unwrap_or_default());
+        plan.unwrap_or_default()
     }
 
     /// Free inheritance mutexes, in random order.

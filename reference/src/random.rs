@@ -45,4 +45,14 @@ impl Random {
             Some(self.pick(list))
         }
     }
+
+    /// Any of the numbers that fulfil the condition, if one does.
+    pub fn any_of(
+        &mut self,
+        numbers: std::ops::Range<usize>,
+        wanted: impl Fn(usize) -> bool,
+    ) -> Option<usize> {
+        let numbers: Vec<usize> = numbers.filter(|&number| wanted(number)).collect();
+        self.maybe(&numbers)
+    }
 }

@@ -5,7 +5,7 @@ mod common;
 use common::*;
 use reference::limits::*;
 use reference::number::MutexNo;
-use reference::words::WORDS;
+use reference::words::{ENDLESS, WORDS};
 use reference::{run_record, Answer, Call, Got, Kernel};
 
 #[test]

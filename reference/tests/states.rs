@@ -6,9 +6,10 @@ use std::process::{Command, Stdio};
 use reference::boundary::BOUNDARIES;
 use reference::check;
 use reference::clauses::{failing, Clause, CLAUSES};
+use reference::lent_state::State;
 use reference::limits::*;
 use reference::random::Random;
-use reference::states::{busy, state, state_at_boundary, state_failing, Kind, State};
+use reference::states::{busy, state, state_at_boundary, state_failing, Kind};
 use reference::words::*;
 
 /// States that each clause is tried on.

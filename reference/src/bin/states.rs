@@ -7,7 +7,8 @@ use std::process::ExitCode;
 
 use reference::boundary::BOUNDARIES;
 use reference::clauses::CLAUSES;
-use reference::states::{state, state_at_boundary, state_failing, Kind, State};
+use reference::lent_state::State;
+use reference::states::{state, state_at_boundary, state_failing, Kind};
 
 const USAGE: &str = "usage: states SEED COUNT FILE_IN FILE_OUT [--each-clause N]
   SEED, COUNT       the states 0 to COUNT - 1 of that seed
