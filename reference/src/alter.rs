@@ -1,7 +1,7 @@
 //! What makes a valid state fail a single clause.
 
 use crate::clauses::Clause;
-use crate::lent_state::{make_wait, messages, resize, row, shuffle_arrivals, State};
+use crate::lent_state::{flags_at, make_wait, messages, resize, shuffle_arrivals, State};
 use crate::limits::*;
 use crate::random::Random;
 use crate::words::*;
@@ -14,7 +14,7 @@ const BUFFER_LISTS: [usize; 5] =
 const POOL_LISTS: [usize; 4] = [at::POOL_EXISTS, at::POOL_ATTRIBUTE, at::COUNT, at::SIZE];
 
 /// A number that is not zero, often a small one.
-fn some(random: &mut Random) -> u32 {
+fn nonzero(random: &mut Random) -> u32 {
     match random.below(4) {
         0 => 1,
         1 => 1 + random.below(17) as u32,
@@ -91,10 +91,10 @@ fn alter_entry_zero(clause: Clause, state: &mut State, random: &mut Random) {
         Clause::MutexEntryZero => random.pick(&MUTEX_LISTS),
         Clause::BufferEntryZero => random.pick(&BUFFER_LISTS),
         Clause::PoolEntryZero if random.percent(50) => random.pick(&POOL_LISTS),
-        Clause::PoolEntryZero => row(0) + random.below(PER_BLOCK),
-        _ => row(1 + random.below(POOLS)),
+        Clause::PoolEntryZero => flags_at(0) + random.below(PER_BLOCK),
+        _ => flags_at(1 + random.below(POOLS)),
     };
-    state.words[at] = some(random);
+    state.words[at] = nonzero(random);
 }
 
 fn alter_unused(clause: Clause, state: &mut State, random: &mut Random) -> Option<()> {
@@ -105,13 +105,13 @@ fn alter_unused(clause: Clause, state: &mut State, random: &mut Random) -> Optio
         _ => (&POOL_LISTS, PER_POOL),
     };
     let unused = random.any_of(1..numbers, |n| state.word(lists[0], n) == 0)?;
-    let flag = row(unused.min(POOLS)) + 1 + random.below(BLOCKS);
+    let flag = flags_at(unused.min(POOLS)) + 1 + random.below(BLOCKS);
     let at = if clause == Clause::PoolUnused && random.percent(50) {
         flag
     } else {
         random.pick(&lists[1..]) + unused
     };
-    state.words[at] = some(random);
+    state.words[at] = nonzero(random);
     Some(())
 }
 
@@ -181,12 +181,12 @@ fn alter_wait(clause: Clause, state: &mut State, random: &mut Random) -> Option<
                 state.outbox[(t - 1) * MESSAGE..t * MESSAGE].fill(0);
             }
         }
-        Clause::NoWait if random.percent(25) => state.set(at::ARGUMENT, waiting?, some(random)),
+        Clause::NoWait if random.percent(25) => state.set(at::ARGUMENT, waiting?, nonzero(random)),
         Clause::NoWait => {
             let idle = |t: usize| [DORMANT, READY].contains(&state.word(at::PLACE, t));
             let t = random.any_of(1..PER_TASK, idle)?;
             let list = random.pick(&[at::OBJECT, at::ARGUMENT, at::LEFT]);
-            let word = if random.percent(20) { ENDLESS } else { some(random) };
+            let word = if random.percent(20) { ENDLESS } else { nonzero(random) };
             state.set(list, t, word);
         }
         Clause::LeftSome => state.set(at::LEFT, waiting?, 0),
@@ -205,7 +205,7 @@ fn alter_arrivals(clause: Clause, state: &mut State, random: &mut Random) -> Opt
     let more = match clause {
         Clause::ArrivalNumber => beyond(random, TASKS as u32),
         Clause::ArrivalStarted => random.any_of(1..PER_TASK, |t| !state.is_started(t))? as u32,
-        Clause::ArrivalOnce => random.maybe(&arrivals[..end])?,
+        Clause::ArrivalOnce => random.pick_if_any(&arrivals[..end])?,
         _ => 0,
     };
     if more != 0 || clause == Clause::ArrivalZeros {
@@ -228,7 +228,7 @@ fn alter_mutex(clause: Clause, state: &mut State, random: &mut Random) -> Option
             state.set(at::MUTEX_ATTRIBUTE, m, u32::from(MUTEX_CEILING));
             (at::CEILING, outside(random, u32::from(PRIORITIES)))
         }
-        Clause::MutexNoCeiling => (at::CEILING, some(random)),
+        Clause::MutexNoCeiling => (at::CEILING, nonzero(random)),
         Clause::MutexHolder => (at::HOLDER, beyond(random, TASKS as u32)),
         _ => {
             let t = random.any_of(1..PER_TASK, |t| !state.is_started(t))?;
@@ -250,7 +250,7 @@ fn alter_lock(clause: Clause, state: &mut State, random: &mut Random) -> Option<
             let waiters: Vec<usize> = state.waiters(LOCKING, m).collect();
             let t = match clause {
                 Clause::BaseAboveHeld => state.word(at::HOLDER, m) as usize,
-                _ => random.maybe(&waiters)?,
+                _ => random.pick_if_any(&waiters)?,
             };
             // Where the mutex has no ceiling yet, one as high as the others allow.
             if state.word(at::MUTEX_ATTRIBUTE, m) != ceiling {
@@ -356,7 +356,7 @@ fn alter_area(clause: Clause, state: &mut State, random: &mut Random) -> Option<
         }
         _ => {
             let b = random.any_of(1..PER_BUFFER, |b| state.word(at::USED, b) != 0)?;
-            let message = random.maybe(&messages(state, b))?;
+            let message = random.pick_if_any(&messages(state, b))?;
             let length = usize::from(state.store[message]);
             if clause == Clause::StorePadding {
                 let end = message + cost(length);
@@ -391,19 +391,19 @@ fn alter_pool(clause: Clause, state: &mut State, random: &mut Random) -> Option<
         Clause::PoolSize => (at::SIZE, outside(random, BLOCK_SIZE as u32)),
         Clause::PoolFlag => {
             let block = 1 + random.below(count);
-            state.words[row(p) + block] = beyond(random, 1);
+            state.words[flags_at(p) + block] = beyond(random, 1);
             return Some(());
         }
         Clause::PoolFlagBeyond => {
             let block = random.any_of(count + 1..PER_BLOCK, |_| true)?;
-            state.words[row(p) + block] = if random.percent(70) { 1 } else { some(random) };
+            state.words[flags_at(p) + block] = if random.percent(70) { 1 } else { nonzero(random) };
             return Some(());
         }
         Clause::PoolSum => return enlarge_pools(state, random),
         _ => {
             let p = random.any_of(1..PER_POOL, |p| state.any(GETTING, p))?;
             let count = state.word(at::COUNT, p) as usize;
-            state.words[row(p) + 1 + random.below(count)] = 0;
+            state.words[flags_at(p) + 1 + random.below(count)] = 0;
             return Some(());
         }
     };
@@ -431,7 +431,7 @@ fn enlarge_pools(state: &mut State, random: &mut Random) -> Option<()> {
         state.set(at::POOL_EXISTS, p, 1);
         state.set(at::COUNT, p, count as u32);
         state.set(at::SIZE, p, size as u32);
-        state.words[row(p)..][old + 1..=count].fill(1);
+        state.words[flags_at(p)..][old + 1..=count].fill(1);
     }
     (bytes > POOL_BYTES).then_some(())
 }

@@ -1,6 +1,6 @@
 //! The ends of the ranges that validity allows: what makes a valid state reach one.
 
-use crate::lent_state::{make_wait, messages, row, State};
+use crate::lent_state::{flags_at, make_wait, messages, State};
 use crate::limits::*;
 use crate::random::Random;
 use crate::words::*;
@@ -130,7 +130,8 @@ fn reach_sender(boundary: Boundary, state: &mut State, random: &mut Random) -> O
         _ => {
             let cost = cost(state.word(at::ARGUMENT, t) as usize) as u32;
             let bufsz = state.word(at::USED, b) + cost - 1;
-            // Only with the first sender's length is the state still valid and one byte more too many.
+            // With one byte more the first sender's message must fit, so that the state is not
+            // valid; without it the state has to be.
             state.set(at::BUFSZ, b, bufsz + 1);
             if state.is_valid() {
                 return None;
@@ -165,7 +166,7 @@ fn reach_mutex(boundary: Boundary, state: &mut State, random: &mut Random) -> Op
             let waiters: Vec<usize> = state.waiters(LOCKING, m).collect();
             let t = match boundary {
                 BaseAtHeld => state.word(at::HOLDER, m) as usize,
-                _ => random.maybe(&waiters)?,
+                _ => random.pick_if_any(&waiters)?,
             };
             if t == 0 {
                 return None;
@@ -213,15 +214,18 @@ fn reach_pool(boundary: Boundary, state: &mut State, random: &mut Random) -> Opt
         }
         CountOne => {
             state.set(at::COUNT, p, 1);
-            state.words[row(p) + 2..][..BLOCKS - 1].fill(0);
+            state.words[flags_at(p) + 2..][..BLOCKS - 1].fill(0);
         }
         CountMost => {
             state.set(at::COUNT, p, BLOCKS as u32);
-            state.words[row(p)..][count + 1..].iter_mut().take(BLOCKS - count).for_each(|f| *f = 1);
+            state.words[flags_at(p)..][count + 1..]
+                .iter_mut()
+                .take(BLOCKS - count)
+                .for_each(|f| *f = 1);
         }
         SizeOne => state.set(at::SIZE, p, 1),
         SizeMost => state.set(at::SIZE, p, BLOCK_SIZE as u32),
-        LastBlock => state.words[row(p) + count] = 1,
+        LastBlock => state.words[flags_at(p) + count] = 1,
         _ => {
             let bytes = |p: usize| (state.word(at::COUNT, p) * state.word(at::SIZE, p)) as usize;
             let others: usize = (1..PER_POOL).filter(|&other| other != p).map(bytes).sum();
@@ -231,7 +235,7 @@ fn reach_pool(boundary: Boundary, state: &mut State, random: &mut Random) -> Opt
             let new = random.any_of(count..BLOCKS + 1, fits)?;
             state.set(at::COUNT, p, new as u32);
             state.set(at::SIZE, p, (left / new) as u32);
-            state.words[row(p) + count + 1..row(p) + new + 1].fill(1);
+            state.words[flags_at(p) + count + 1..flags_at(p) + new + 1].fill(1);
         }
     }
     Some(())

@@ -35,12 +35,13 @@ impl CallMaker {
         PoolNo::all().filter(|&p| self.kernel.pool(p).is_some()).collect()
     }
 
-    pub fn time_helps(&self) -> bool {
+    /// Whether fewer than a hundred ticks end a wait.
+    pub fn some_wait_ends_soon(&self) -> bool {
         TaskNo::all().any(|t| (1..100).contains(&self.kernel.task(t).left))
     }
 
     /// Whether another task could run if the caller stopped.
-    pub fn has_company(&self) -> bool {
+    pub fn another_is_ready(&self) -> bool {
         self.kernel.ready().len() > 1
     }
 
@@ -50,7 +51,7 @@ impl CallMaker {
         match self.random.below(100) {
             0..=8 => 0,
             9..=11 => self.random.pick(&[i32::MAX, i32::MAX - 1, 50, 1000]),
-            12..=54 if self.has_company() => -1,
+            12..=54 if self.another_is_ready() => -1,
             55 => -1,
             _ => self.random.between(1, 7),
         }
@@ -108,7 +109,7 @@ impl CallMaker {
     }
 
     /// A call of the kind that is likely to be good; none if there is nothing to call it on.
-    pub fn sensible(&mut self, row: usize) -> Option<Call> {
+    pub fn likely_good(&mut self, row: usize) -> Option<Call> {
         let running = self.kernel.running()?;
         let holds = |k: &Kernel, m: MutexNo| k.mutex(m).and_then(|m| m.holder) == Some(running);
         Some(match KINDS[row].1 {
@@ -120,14 +121,14 @@ impl CallMaker {
             }
             "del_tsk" => {
                 let dormant = self.tasks(|t| t.place == Place::Dormant);
-                Call::DelTsk { task: number(self.random.maybe(&dormant)?) }
+                Call::DelTsk { task: number(self.random.pick_if_any(&dormant)?) }
             }
             "sta_tsk" => {
                 let dormant = self.tasks(|t| t.place == Place::Dormant);
-                Call::StaTsk { task: number(self.random.maybe(&dormant)?) }
+                Call::StaTsk { task: number(self.random.pick_if_any(&dormant)?) }
             }
             "ext_tsk" => {
-                if !self.has_company() && !self.random.percent(3) {
+                if !self.another_is_ready() && !self.random.percent(3) {
                     return None;
                 }
                 Call::ExtTsk
@@ -142,13 +143,16 @@ impl CallMaker {
                     .filter(|&t| self.kernel.task(t).place != Place::Ready)
                     .collect();
                 let from = if self.random.percent(60) { &waiting } else { &others };
-                Call::TerTsk { task: number(self.random.maybe(from)?) }
+                Call::TerTsk { task: number(self.random.pick_if_any(from)?) }
             }
             "chg_pri" if self.random.percent(10) => self.near_a_ceiling()?,
             "chg_pri" => {
                 let live = self.tasks(|t| t.place != Place::Absent);
-                let task =
-                    if self.random.percent(25) { 0 } else { number(self.random.maybe(&live)?) };
+                let task = if self.random.percent(25) {
+                    0
+                } else {
+                    number(self.random.pick_if_any(&live)?)
+                };
                 let priority = if self.random.percent(15) { 0 } else { self.priority() };
                 Call::ChgPri { task, priority }
             }
@@ -166,7 +170,7 @@ impl CallMaker {
                     .filter(|&m| self.kernel.mutex(m).is_some_and(|m| !m.waiters.is_empty()))
                     .collect();
                 let from = if self.random.percent(60) { &awaited } else { &mutexes };
-                Call::DelMtx { mutex: i32::from(self.random.maybe(from)?.get()) }
+                Call::DelMtx { mutex: i32::from(self.random.pick_if_any(from)?.get()) }
             }
             "loc_mtx" => {
                 let base = self.kernel.task(running).base;
@@ -181,13 +185,13 @@ impl CallMaker {
                     .filter(|&m| self.kernel.mutex(m).is_some_and(|m| m.holder.is_some()))
                     .collect();
                 let from = if self.random.percent(35) { &held } else { &mutexes };
-                let mutex = i32::from(self.random.maybe(from)?.get());
+                let mutex = i32::from(self.random.pick_if_any(from)?.get());
                 Call::LocMtx { mutex, timeout: self.timeout() }
             }
             "unl_mtx" => {
                 let mut held = self.mutexes();
                 held.retain(|&m| holds(&self.kernel, m));
-                Call::UnlMtx { mutex: i32::from(self.random.maybe(&held)?.get()) }
+                Call::UnlMtx { mutex: i32::from(self.random.pick_if_any(&held)?.get()) }
             }
             "cre_mbf" => {
                 if self.buffers().len() == BUFFERS && self.random.percent(80) {
@@ -197,11 +201,11 @@ impl CallMaker {
             }
             "del_mbf" => {
                 let buffers = self.buffers();
-                Call::DelMbf { buffer: i32::from(self.random.maybe(&buffers)?.get()) }
+                Call::DelMbf { buffer: i32::from(self.random.pick_if_any(&buffers)?.get()) }
             }
             "snd_mbf" => {
                 let buffers = self.buffers();
-                let buffer = self.random.maybe(&buffers)?;
+                let buffer = self.random.pick_if_any(&buffers)?;
                 let maxmsz = i32::from(self.kernel.buffer(buffer)?.maxmsz);
                 let msgsz = match self.random.below(4) {
                     0 => maxmsz,
@@ -213,7 +217,7 @@ impl CallMaker {
             }
             "rcv_mbf" => {
                 let buffers = self.buffers();
-                let buffer = self.random.maybe(&buffers)?;
+                let buffer = self.random.pick_if_any(&buffers)?;
                 let buffer = i32::from(buffer.get());
                 // Mostly where something is to be had; waiting receivers would eat every message.
                 if self.kernel.next_message(buffer).is_empty() && self.random.percent(50) {
@@ -229,21 +233,21 @@ impl CallMaker {
             }
             "del_mpf" => {
                 let pools = self.pools();
-                Call::DelMpf { pool: i32::from(self.random.maybe(&pools)?.get()) }
+                Call::DelMpf { pool: i32::from(self.random.pick_if_any(&pools)?.get()) }
             }
             "get_mpf" => {
                 let pools = self.pools();
-                let pool = i32::from(self.random.maybe(&pools)?.get());
+                let pool = i32::from(self.random.pick_if_any(&pools)?.get());
                 Call::GetMpf { pool, timeout: self.timeout() }
             }
             "rel_mpf" => {
                 let pools = self.pools();
-                let number = self.random.maybe(&pools)?;
+                let number = self.random.pick_if_any(&pools)?;
                 let pool = self.kernel.pool(number)?;
                 let out: Vec<i32> = (1..=i32::from(pool.count))
                     .filter(|block| pool.out >> (block - 1) & 1 == 1)
                     .collect();
-                let block = self.random.maybe(&out)?;
+                let block = self.random.pick_if_any(&out)?;
                 Call::RelMpf { pool: i32::from(number.get()), block }
             }
             _ => Call::Tick,
@@ -260,13 +264,13 @@ impl CallMaker {
                 near.extend(tasks.map(|task| (task, i32::from(mutex.ceiling))));
             }
         }
-        let (task, ceiling) = self.random.maybe(&near)?;
+        let (task, ceiling) = self.random.pick_if_any(&near)?;
         let priority = (ceiling + self.random.between(-1, 1)).clamp(1, i32::from(PRIORITIES));
         Some(Call::ChgPri { task: number(task), priority })
     }
 
     /// A call of the kind on any numbers in or near their ranges.
-    pub fn any(&mut self, row: usize) -> Call {
+    pub fn any_call(&mut self, row: usize) -> Call {
         let (kind, _, length) = KINDS[row];
         let mut bytes = vec![kind];
         for _ in 0..length / 4 {

@@ -1,7 +1,7 @@
 //! The clauses of validity one by one. Each is told from any words at all and takes no other for
 //! granted: a number out of its range is its own clause's failure, and the others pass over it.
-//! [`check`](crate::valid::check) asks the same in another way, so that the one can be held against the
-//! other.
+//! [`check`](crate::valid::check) asks the same in another way, so that the one can be held
+//! against the other.
 
 use std::borrow::Cow;
 

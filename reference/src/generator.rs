@@ -17,8 +17,8 @@ struct Profile {
     weights: [u32; KINDS.len()],
     /// How often, in a hundred records, a longer plan is begun.
     plans: usize,
-    /// How often, in a hundred records, a field gets an odd number.
-    odd: usize,
+    /// How often, in a hundred records, a field gets an unusual number.
+    unusual: usize,
     /// How many tasks, mutexes, buffers and pools are made first.
     setup: [usize; 4],
 }
@@ -29,28 +29,28 @@ struct Profile {
 const PROFILES: [Profile; 8] = [
     // A bit of everything.
     Profile { weights: [5, 2, 14, 3, 4, 10,  4, 2, 22, 14,  3, 2, 24, 20,  3, 1, 14, 10,  14],
-              plans: 4, odd: 2, setup: [9, 5, 2, 2] },
+              plans: 4, unusual: 2, setup: [9, 5, 2, 2] },
     // Inheritance: chains, circles, and what breaks them.
     Profile { weights: [3, 1, 12, 2, 5, 10,  3, 2, 40, 14,  0, 0, 1, 1,  0, 0, 1, 1,  10],
-              plans: 12, odd: 1, setup: [11, 7, 0, 0] },
+              plans: 12, unusual: 1, setup: [11, 7, 0, 0] },
     // Message buffers, with mutexes that move the senders.
     Profile { weights: [3, 1, 10, 2, 4, 10,  2, 1, 16, 8,  3, 2, 44, 24,  0, 0, 1, 1,  10],
-              plans: 10, odd: 1, setup: [11, 4, 3, 0] },
+              plans: 10, unusual: 1, setup: [11, 4, 3, 0] },
     // Pools.
     Profile { weights: [3, 1, 10, 3, 4, 8,  1, 1, 8, 5,  0, 0, 1, 1,  6, 3, 40, 24,  10],
-              plans: 1, odd: 1, setup: [11, 2, 0, 4] },
+              plans: 1, unusual: 1, setup: [11, 2, 0, 4] },
     // Tasks that come and go, under waits and with mutexes.
     Profile { weights: [14, 8, 26, 12, 16, 16,  3, 2, 20, 6,  2, 1, 8, 8,  2, 1, 8, 4,  10],
-              plans: 3, odd: 2, setup: [8, 4, 2, 2] },
+              plans: 3, unusual: 2, setup: [8, 4, 2, 2] },
     // Every number in use.
     Profile { weights: [20, 2, 10, 2, 2, 4,  16, 3, 8, 4,  10, 2, 6, 6,  12, 3, 6, 4,  6],
-              plans: 2, odd: 5, setup: [15, 8, 4, 4] },
+              plans: 2, unusual: 5, setup: [15, 8, 4, 4] },
     // Timeouts.
     Profile { weights: [2, 1, 12, 2, 2, 6,  2, 1, 24, 8,  2, 1, 16, 14,  2, 1, 12, 4,  50],
-              plans: 5, odd: 1, setup: [11, 5, 2, 2] },
-    // Odd numbers everywhere.
+              plans: 5, unusual: 1, setup: [11, 5, 2, 2] },
+    // Unusual numbers everywhere.
     Profile { weights: [6, 4, 14, 2, 5, 12,  6, 3, 16, 8,  6, 3, 18, 14,  6, 3, 12, 10,  6],
-              plans: 2, odd: 45, setup: [8, 5, 3, 3] },
+              plans: 2, unusual: 45, setup: [8, 5, 3, 3] },
 ];
 
 /// A script in the making and the kernel that runs it.
@@ -122,7 +122,7 @@ impl Generator<'_> {
         let mut stuck = 0;
         while made < records && self.script.len() + 1 + 12 + MESSAGE <= SCRIPT {
             // With nobody running only ticks help, and they only while a wait can time out.
-            if self.maker.kernel.running().is_none() && !self.maker.time_helps() {
+            if self.maker.kernel.running().is_none() && !self.maker.some_wait_ends_soon() {
                 stuck += 1;
                 if stuck > 4 {
                     break;
@@ -141,16 +141,16 @@ impl Generator<'_> {
     fn set_up(&mut self) {
         let [tasks, mutexes, buffers, pools] = self.profile.setup;
         let mut calls = Vec::new();
-        for _ in 0..self.about(mutexes) {
+        for _ in 0..self.half_or_more(mutexes) {
             calls.push(self.maker.cre_mtx());
         }
-        for _ in 0..self.about(buffers) {
+        for _ in 0..self.half_or_more(buffers) {
             calls.push(self.maker.cre_mbf());
         }
-        for _ in 0..self.about(pools) {
+        for _ in 0..self.half_or_more(pools) {
             calls.push(self.maker.cre_mpf());
         }
-        for task in 0..self.about(tasks) {
+        for task in 0..self.half_or_more(tasks) {
             calls.push(self.maker.cre_tsk());
             if self.maker.random.percent(85) {
                 calls.push(Call::StaTsk { task: task as i32 + 2 });
@@ -160,7 +160,7 @@ impl Generator<'_> {
     }
 
     /// Half of the number or more, up to the number.
-    fn about(&mut self, number: usize) -> usize {
+    fn half_or_more(&mut self, number: usize) -> usize {
         number - self.maker.random.below(number / 2 + 1)
     }
 
@@ -200,8 +200,8 @@ impl Generator<'_> {
     fn add(&mut self, call: Call) {
         let mut bytes = Vec::new();
         call.write(&mut bytes);
-        while self.maker.random.percent(self.profile.odd) {
-            self.make_odd(&mut bytes);
+        while self.maker.random.percent(self.profile.unusual) {
+            self.make_unusual(&mut bytes);
         }
         let Some((call, _)) = record::read(&bytes) else { return };
         let before = self.maker.kernel.clone();
@@ -210,9 +210,9 @@ impl Generator<'_> {
         self.script.extend_from_slice(&bytes);
     }
 
-    /// Puts an odd number into one field of a record.
-    fn make_odd(&mut self, record: &mut [u8]) {
-        const ODD: [i32; 34] = [
+    /// Puts an unusual number into one field of a record.
+    fn make_unusual(&mut self, record: &mut [u8]) {
+        const UNUSUAL: [i32; 34] = [
             0,
             1,
             2,
@@ -263,7 +263,7 @@ impl Generator<'_> {
             4 => old.wrapping_add(1 << 16),
             5 => old ^ i32::MIN,
             6 => self.maker.random.word() as i32,
-            _ => self.maker.random.pick(&ODD),
+            _ => self.maker.random.pick(&UNUSUAL),
         };
         record[at..at + 4].copy_from_slice(&new.to_le_bytes());
     }
@@ -302,7 +302,11 @@ impl Generator<'_> {
     fn choose(&mut self) -> Call {
         if self.maker.kernel.running().is_none() {
             let row = self.maker.random.below(KINDS.len());
-            return if self.maker.random.percent(70) { Call::Tick } else { self.maker.any(row) };
+            return if self.maker.random.percent(70) {
+                Call::Tick
+            } else {
+                self.maker.any_call(row)
+            };
         }
         if self.maker.random.percent(self.profile.plans) {
             self.plan.extend(self.maker.plan());
@@ -322,9 +326,9 @@ impl Generator<'_> {
                 .unwrap_or(0);
             // Now and then a call on any target, mostly to be refused.
             if self.maker.random.percent(3) {
-                return self.maker.any(row);
+                return self.maker.any_call(row);
             }
-            if let Some(call) = self.maker.sensible(row) {
+            if let Some(call) = self.maker.likely_good(row) {
                 return call;
             }
         }

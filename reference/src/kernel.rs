@@ -31,7 +31,7 @@ pub struct Task {
     pub current: u8,
     /// Milliseconds left of the wait: 0 without a wait, [`ENDLESS`] without a timeout.
     pub left: u32,
-    /// When the task came to its queue; larger is later.
+    /// Number of the arrival in its queue; larger is later.
     pub(crate) arrival: u32,
 }
 
@@ -113,7 +113,7 @@ impl Mutex {
 
     /// Whether the mutex has a part in anyone's current priority.
     #[inline]
-    pub fn lifts(&self) -> bool {
+    pub fn affects_priorities(&self) -> bool {
         self.attribute >= MUTEX_INHERIT
     }
 }
@@ -150,7 +150,7 @@ pub struct Kernel {
     pub(crate) timed: TaskSet,
     /// The first of the ready queue, brought up to date at the end of each call.
     pub(crate) running: Option<TaskNo>,
-    /// Stamp of the next task to come to a queue.
+    /// Number of the next arrival in a queue.
     pub(crate) next_arrival: u32,
 }
 
@@ -268,16 +268,13 @@ impl Kernel {
         self.next_arrival += 1;
     }
 
-    /// Takes the smallest stamps that keep every order, so that stamps never run out.
+    /// Takes the smallest numbers that keep every order, so that they never run out.
     #[cold]
     fn renumber(&mut self) {
-        let mut order = [0; TASKS];
-        for (i, place) in order.iter_mut().enumerate() {
-            *place = i;
-        }
+        let mut order: [usize; TASKS] = std::array::from_fn(|i| i);
         order.sort_by_key(|&i| self.tasks[i].arrival);
-        for (stamp, &i) in order.iter().enumerate() {
-            self.tasks[i].arrival = stamp as u32;
+        for (arrival, &i) in order.iter().enumerate() {
+            self.tasks[i].arrival = arrival as u32;
         }
         self.next_arrival = TASKS as u32;
     }

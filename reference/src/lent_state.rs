@@ -86,7 +86,7 @@ impl State {
     }
 
     /// How much is going on: waits count most.
-    pub(crate) fn bustle(&self) -> usize {
+    pub(crate) fn activity(&self) -> usize {
         let waits = (1..PER_TASK).filter(|&t| self.is_waiting(t)).count();
         let held = (1..PER_MUTEX).filter(|&m| self.word(at::HOLDER, m) != 0).count();
         let stored = (1..PER_BUFFER).filter(|&b| self.word(at::USED, b) != 0).count();
@@ -95,7 +95,8 @@ impl State {
     }
 }
 
-pub(crate) fn row(pool: usize) -> usize {
+/// Where the flags of a pool begin.
+pub(crate) fn flags_at(pool: usize) -> usize {
     at::FLAGS + pool * PER_BLOCK
 }
 

@@ -38,7 +38,7 @@ impl Random {
     }
 
     /// One of a list, if it has any.
-    pub fn maybe<T: Copy>(&mut self, list: &[T]) -> Option<T> {
+    pub fn pick_if_any<T: Copy>(&mut self, list: &[T]) -> Option<T> {
         if list.is_empty() {
             None
         } else {
@@ -53,6 +53,6 @@ impl Random {
         wanted: impl Fn(usize) -> bool,
     ) -> Option<usize> {
         let numbers: Vec<usize> = numbers.filter(|&number| wanted(number)).collect();
-        self.maybe(&numbers)
+        self.pick_if_any(&numbers)
     }
 }

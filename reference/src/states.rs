@@ -25,8 +25,8 @@ pub enum Kind {
     Fails(Clause),
     /// Some words and bytes are replaced.
     Changed,
-    /// Nothing but noise.
-    Noise,
+    /// Random words and bytes.
+    RandomWords,
 }
 
 /// State number `index` of a seed.
@@ -44,7 +44,7 @@ pub fn state(seed: u64, index: u64) -> (Kind, State) {
             (Kind::Fails(clause), failing_alone(clause, &mut random))
         }
         40..=95 => (Kind::Changed, changed(&mut random)),
-        _ => (Kind::Noise, noise(&mut random)),
+        _ => (Kind::RandomWords, random_words(&mut random)),
     }
 }
 
@@ -74,7 +74,7 @@ pub fn busy(random: &mut Random) -> State {
         at += length;
     }
     let picks: Vec<usize> = (0..4).map(|_| random.below(along.len())).collect();
-    let busiest = picks.into_iter().max_by_key(|&at| along[at].bustle()).unwrap_or(0);
+    let busiest = picks.into_iter().max_by_key(|&at| along[at].activity()).unwrap_or(0);
     along.swap_remove(busiest)
 }
 
@@ -225,12 +225,12 @@ fn change_word(state: &mut State, random: &mut Random) {
     };
 }
 
-/// Words that say nothing, areas too; counts and sizes whose product has more than 32 bits.
-fn noise(random: &mut Random) -> State {
+/// Random words, areas sometimes too, or counts and sizes whose product has more than 32 bits.
+fn random_words(random: &mut Random) -> State {
     let mut state = if random.percent(30) { busy(random) } else { State::empty() };
-    let manner = random.below(5);
+    let choice = random.below(5);
     for word in &mut state.words {
-        *word = match manner {
+        *word = match choice {
             0 => random.word() as u32,
             1 => random.below(4) as u32,
             2 => random.below(2) as u32,
@@ -238,7 +238,7 @@ fn noise(random: &mut Random) -> State {
             _ => *word,
         };
     }
-    if manner == 4 {
+    if choice == 4 {
         for p in 1..PER_POOL {
             state.set(at::POOL_EXISTS, p, 1);
             state.set(at::COUNT, p, random.pick(&[16, 1 << 16, 1 << 20, 1 << 31, u32::MAX]));

@@ -60,33 +60,33 @@ impl Lent {
 /// Buffers: 1 by priority, 24 bytes, holds messages of 1 and 4 bytes; 2 is empty. Pools: 1 has
 /// both blocks out, 2 has one of three out.
 fn sample() -> Lent {
-    let mut lab = Lab::new();
-    lab.code(cre_mtx(2, 0));
-    lab.code(cre_mtx(3, 6));
-    lab.code(cre_mtx(0, 0));
-    lab.code(cre_mbf(1, 24, 20));
-    lab.code(cre_mbf(0, 64, 8));
-    lab.code(cre_mpf(1, 2, 256));
-    lab.code(cre_mpf(512, 3, 100));
-    lab.ok(get_mpf(1, 0));
-    lab.ok(get_mpf(1, 0));
-    lab.ok(get_mpf(2, 0));
-    lab.ok(snd_mbf(1, 1, 0));
-    lab.ok(snd_mbf(1, 4, 0));
-    lab.start(5);
-    lab.waits(snd_mbf(1, 20, -1));
-    lab.ok(loc_mtx(1, 0));
-    lab.ok(loc_mtx(2, 0));
-    lab.start(4);
-    lab.waits(loc_mtx(1, -1));
-    lab.start(3);
-    lab.waits(get_mpf(1, 1));
-    lab.start(7);
-    lab.ok(chg_pri(5, 2));
-    lab.waits(rcv_mbf(2, 9));
-    lab.ok(chg_pri(5, 7));
-    lab.code(cre_tsk(9));
-    Lent::of(&lab.kernel)
+    let mut test = TestKernel::new();
+    test.code(cre_mtx(2, 0));
+    test.code(cre_mtx(3, 6));
+    test.code(cre_mtx(0, 0));
+    test.code(cre_mbf(1, 24, 20));
+    test.code(cre_mbf(0, 64, 8));
+    test.code(cre_mpf(1, 2, 256));
+    test.code(cre_mpf(512, 3, 100));
+    test.ok(get_mpf(1, 0));
+    test.ok(get_mpf(1, 0));
+    test.ok(get_mpf(2, 0));
+    test.ok(snd_mbf(1, 1, 0));
+    test.ok(snd_mbf(1, 4, 0));
+    test.start(5);
+    test.waits(snd_mbf(1, 20, -1));
+    test.ok(loc_mtx(1, 0));
+    test.ok(loc_mtx(2, 0));
+    test.start(4);
+    test.waits(loc_mtx(1, -1));
+    test.start(3);
+    test.waits(get_mpf(1, 1));
+    test.start(7);
+    test.ok(chg_pri(5, 2));
+    test.waits(rcv_mbf(2, 9));
+    test.ok(chg_pri(5, 7));
+    test.code(cre_tsk(9));
+    Lent::of(&test.kernel)
 }
 
 #[test]
@@ -445,9 +445,9 @@ fn words_of_any_value() {
     assert!(kept > 500, "{kept} states stayed valid");
 }
 
-/// Nothing but noise.
+/// Every word random.
 #[test]
-fn words_of_noise() {
+fn random_words() {
     let mut random = Random::new(3);
     let areas = ([0; STORE], [0; OUTBOX]);
     for round in 0..5_000 {

@@ -27,7 +27,7 @@ struct Options {
 }
 
 fn options() -> Option<Options> {
-    let mut plain = Vec::new();
+    let mut positional = Vec::new();
     let (mut each, mut records, mut check) = (false, 120, false);
     let mut arguments = std::env::args().skip(1);
     while let Some(argument) = arguments.next() {
@@ -35,10 +35,10 @@ fn options() -> Option<Options> {
             "--each" => each = true,
             "--check" => check = true,
             "--records" => records = arguments.next()?.parse().ok()?,
-            _ => plain.push(argument),
+            _ => positional.push(argument),
         }
     }
-    let [seed, count, dir] = plain.try_into().ok()?;
+    let [seed, count, dir] = positional.try_into().ok()?;
     Some(Options {
         seed: seed.parse().ok()?,
         count: count.parse().ok()?,
