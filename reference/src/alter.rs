@@ -6,18 +6,11 @@ use crate::limits::*;
 use crate::random::Random;
 use crate::words::*;
 
-const TASK_LISTS: [usize; 7] =
-    [at::PLACE, at::OBJECT, at::ARGUMENT, at::INITIAL, at::BASE, at::CURRENT, at::LEFT];
-const MUTEX_LISTS: [usize; 4] = [at::MUTEX_EXISTS, at::MUTEX_ATTRIBUTE, at::CEILING, at::HOLDER];
-const BUFFER_LISTS: [usize; 5] =
-    [at::BUFFER_EXISTS, at::BUFFER_ATTRIBUTE, at::BUFSZ, at::MAXMSZ, at::USED];
-const POOL_LISTS: [usize; 4] = [at::POOL_EXISTS, at::POOL_ATTRIBUTE, at::COUNT, at::SIZE];
-
 /// A number that is not zero, often a small one.
 fn nonzero(random: &mut Random) -> u32 {
     match random.below(4) {
         0 => 1,
-        1 => 1 + random.below(17) as u32,
+        1 => 1 + random.below(PER_TASK) as u32,
         2 => random.pick(&[2, 255, 256, 257, 1 << 16, 1 << 31, i32::MAX as u32, u32::MAX]),
         _ => (random.word() as u32).max(1),
     }
@@ -255,7 +248,7 @@ fn alter_lock(clause: Clause, state: &mut State, random: &mut Random) -> Option<
             // Where the mutex has no ceiling yet, one as high as the others allow.
             if state.word(at::MUTEX_ATTRIBUTE, m) != ceiling {
                 state.set(at::MUTEX_ATTRIBUTE, m, ceiling);
-                state.set(at::CEILING, m, 2 + random.below(15) as u32);
+                state.set(at::CEILING, m, 2 + random.below(usize::from(PRIORITIES) - 1) as u32);
             }
             let most = state.word(at::CEILING, m) as usize;
             if most > 1 && random.percent(70) {
@@ -411,7 +404,7 @@ fn alter_pool(clause: Clause, state: &mut State, random: &mut Random) -> Option<
     Some(())
 }
 
-/// Pools of more than 4,096 bytes, sometimes of one byte more; new blocks are handed out.
+/// Pools of more than POOL_BYTES, sometimes of one byte more; new blocks are handed out.
 fn enlarge_pools(state: &mut State, random: &mut Random) -> Option<()> {
     let mut bytes = 0;
     for p in 1..PER_POOL {

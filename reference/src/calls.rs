@@ -6,6 +6,9 @@ use crate::number::{BufferNo, MutexNo, PoolNo, TaskNo};
 use crate::random::Random;
 use crate::record::{self, Call, KINDS};
 
+/// The least urgent priority.
+pub(crate) const LEAST_URGENT: i32 = PRIORITIES as i32;
+
 /// The kernel as it is now, and the random source that calls are chosen by.
 pub(crate) struct CallMaker {
     pub random: Random,
@@ -58,33 +61,38 @@ impl CallMaker {
     }
 
     fn priority(&mut self) -> i32 {
-        self.random.between(1, i32::from(PRIORITIES))
+        self.random.between(1, LEAST_URGENT)
     }
 
     pub fn cre_tsk(&mut self) -> Call {
         // Mostly below task 1, so that setting up goes on.
         let low = if self.random.percent(70) { i32::from(FRESH_PRIORITY) } else { 1 };
-        Call::CreTsk { priority: self.random.between(low, i32::from(PRIORITIES)) }
+        Call::CreTsk { priority: self.random.between(low, LEAST_URGENT) }
     }
 
     pub fn cre_mtx(&mut self) -> Call {
         let attribute = self.random.pick(&[0, 1, 2, 2, 2, 2, 3]);
         let ceiling = match attribute {
             // Low ceilings would let nobody in; high ones let everyone.
-            3 => self.random.pick(&[1, 1, 2, 3, 5, 8, 12, 16]),
-            _ => self.random.pick(&[0, 0, 5, 17, -1]),
+            3 => self.random.pick(&[1, 1, 2, 3, 5, 8, 12, LEAST_URGENT]),
+            _ => self.random.pick(&[0, 0, 5, LEAST_URGENT + 1, -1]),
         };
         Call::CreMtx { attribute, ceiling }
     }
 
     pub fn cre_mbf(&mut self) -> Call {
+        let [shortest, longest] = [1, MESSAGE].map(|length| cost(length) as i32);
+        let most = STRETCH as i32;
+        let ends = [shortest - 1, shortest, longest - 1, longest, most - 1, most, most + 1];
         let bufsz = match self.random.below(10) {
             0 => 0,
-            1 => self.random.pick(&[7, 8, 35, 36, 255, 256, 257]),
-            2 => self.random.between(0, STRETCH as i32),
+            1 => self.random.pick(&ends),
+            2 => self.random.between(0, most),
             _ => self.random.between(8, 80),
         };
-        let maxmsz = if self.random.percent(60) { 32 } else { self.random.between(1, 32) };
+        let longest = MESSAGE as i32;
+        let maxmsz =
+            if self.random.percent(60) { longest } else { self.random.between(1, longest) };
         Call::CreMbf { attribute: self.random.pick(&[0, 1, 1]), bufsz, maxmsz }
     }
 
@@ -94,7 +102,7 @@ impl CallMaker {
         } else {
             self.random.between(1, BLOCKS as i32)
         };
-        let size = self.random.pick(&[1, 4, 16, 64, 255, 256]);
+        let size = self.random.pick(&[1, 4, 16, 64, BLOCK_SIZE as i32 - 1, BLOCK_SIZE as i32]);
         let level = self.random.pick(&[0, 0, 0, 256, 512, 768]);
         Call::CreMpf { attribute: self.random.between(0, 1) + level, count, size }
     }
@@ -265,7 +273,7 @@ impl CallMaker {
             }
         }
         let (task, ceiling) = self.random.pick_if_any(&near)?;
-        let priority = (ceiling + self.random.between(-1, 1)).clamp(1, i32::from(PRIORITIES));
+        let priority = (ceiling + self.random.between(-1, 1)).clamp(1, LEAST_URGENT);
         Some(Call::ChgPri { task: number(task), priority })
     }
 
@@ -275,9 +283,9 @@ impl CallMaker {
         let mut bytes = vec![kind];
         for _ in 0..length / 4 {
             let field = match self.random.below(6) {
-                0 => self.random.between(-2, 18),
+                0 => self.random.between(-2, TASKS as i32 + 2),
                 1 | 2 => self.random.between(1, TASKS as i32),
-                _ => self.random.between(1, 4),
+                _ => self.random.between(1, BUFFERS as i32),
             };
             bytes.extend_from_slice(&field.to_le_bytes());
         }

@@ -555,7 +555,7 @@ fn created(index: usize) -> Answer {
 
 /// The length of the oldest message of a buffer's stretch.
 fn stored_length(stretch: &[u8; STRETCH]) -> usize {
-    // A message is at most 32 bytes, so the other three bytes of its length are 0.
+    // No length above MESSAGE: the other bytes of the length are 0.
     usize::from(stretch[0])
 }
 
@@ -575,8 +575,8 @@ mod tests {
         let mut low = Kernel::fresh();
         let mut high = Kernel::fresh();
         let (mut a, mut b) = (Outcome::default(), Outcome::default());
-        let mut calls = vec![Call::CreMbf { attribute: 1, bufsz: 0, maxmsz: 32 }];
-        for task in 2..=9 {
+        let mut calls = vec![Call::CreMbf { attribute: 1, bufsz: 0, maxmsz: MESSAGE as i32 }];
+        for task in 2..=TASKS as i32 {
             calls.push(Call::CreTsk { priority: 8 });
             calls.push(Call::StaTsk { task });
         }

@@ -1,6 +1,7 @@
 //! Random scripts that get far: each call is chosen by looking at the kernel that runs beside.
 
 use std::collections::VecDeque;
+use std::sync::LazyLock;
 
 use crate::calls::CallMaker;
 use crate::kernel::{Kernel, Place};
@@ -10,6 +11,9 @@ use crate::plans::Step;
 use crate::random::Random;
 use crate::record::{self, Call, KINDS};
 use crate::tally::Tally;
+
+/// Most records of a script where nothing else is asked for: enough for every task to be made.
+pub const RECORDS: usize = TASKS * 15 / 2;
 
 /// What a script is mostly about.
 struct Profile {
@@ -23,35 +27,48 @@ struct Profile {
     setup: [usize; 4],
 }
 
+/// About two thirds of the tasks.
+const MANY_TASKS: usize = TASKS * 2 / 3 + 1;
+
 //       tasks: cre del sta ext ter chg | mtx: cre del loc unl | mbf: cre del snd rcv
 //       | mpf: cre del get rel | tick
 #[rustfmt::skip]
 const PROFILES: [Profile; 8] = [
     // A bit of everything.
     Profile { weights: [5, 2, 14, 3, 4, 10,  4, 2, 22, 14,  3, 2, 24, 20,  3, 1, 14, 10,  14],
-              plans: 4, unusual: 2, setup: [9, 5, 2, 2] },
+              plans: 4, unusual: 2, setup: [TASKS / 2 + 1, 5, 2, 2] },
     // Inheritance: chains, circles, and what breaks them.
     Profile { weights: [3, 1, 12, 2, 5, 10,  3, 2, 40, 14,  0, 0, 1, 1,  0, 0, 1, 1,  10],
-              plans: 12, unusual: 1, setup: [11, 7, 0, 0] },
+              plans: 12, unusual: 1, setup: [MANY_TASKS, 7, 0, 0] },
     // Message buffers, with mutexes that move the senders.
     Profile { weights: [3, 1, 10, 2, 4, 10,  2, 1, 16, 8,  3, 2, 44, 24,  0, 0, 1, 1,  10],
-              plans: 10, unusual: 1, setup: [11, 4, 3, 0] },
+              plans: 10, unusual: 1, setup: [MANY_TASKS, 4, 3, 0] },
     // Pools.
     Profile { weights: [3, 1, 10, 3, 4, 8,  1, 1, 8, 5,  0, 0, 1, 1,  6, 3, 40, 24,  10],
-              plans: 1, unusual: 1, setup: [11, 2, 0, 4] },
+              plans: 1, unusual: 1, setup: [MANY_TASKS, 2, 0, 4] },
     // Tasks that come and go, under waits and with mutexes.
     Profile { weights: [14, 8, 26, 12, 16, 16,  3, 2, 20, 6,  2, 1, 8, 8,  2, 1, 8, 4,  10],
-              plans: 3, unusual: 2, setup: [8, 4, 2, 2] },
+              plans: 3, unusual: 2, setup: [TASKS / 2, 4, 2, 2] },
     // Every number in use.
     Profile { weights: [20, 2, 10, 2, 2, 4,  16, 3, 8, 4,  10, 2, 6, 6,  12, 3, 6, 4,  6],
-              plans: 2, unusual: 5, setup: [15, 8, 4, 4] },
+              plans: 2, unusual: 5, setup: [TASKS - 1, MUTEXES, BUFFERS, POOLS] },
     // Timeouts.
     Profile { weights: [2, 1, 12, 2, 2, 6,  2, 1, 24, 8,  2, 1, 16, 14,  2, 1, 12, 4,  50],
-              plans: 5, unusual: 1, setup: [11, 5, 2, 2] },
+              plans: 5, unusual: 1, setup: [MANY_TASKS, 5, 2, 2] },
     // Unusual numbers everywhere.
     Profile { weights: [6, 4, 14, 2, 5, 12,  6, 3, 16, 8,  6, 3, 18, 14,  6, 3, 12, 10,  6],
-              plans: 2, unusual: 45, setup: [8, 5, 3, 3] },
+              plans: 2, unusual: 45, setup: [TASKS / 2, 5, 3, 3] },
 ];
+
+/// Numbers at the ends of ranges, pool attributes, and what no field allows.
+static UNUSUAL: LazyLock<Vec<i32>> = LazyLock::new(|| {
+    let longest = cost(MESSAGE) as u32;
+    let attributes = [512, 513, 768, 769, 1024];
+    let others = [&[0, 1, 2, longest - 1, longest, POOL_BYTES as u32, 1 << 16], &attributes[..]];
+    let negative = [-1, -2, -3, -256, i32::MIN, i32::MIN + 1];
+    let upwards = near_limits(&others.concat()).into_iter().map(|number| number as i32);
+    upwards.chain(negative).chain([i32::MAX]).collect()
+});
 
 /// A script in the making and the kernel that runs it.
 struct Generator<'a> {
@@ -212,42 +229,6 @@ impl Generator<'_> {
 
     /// Puts an unusual number into one field of a record.
     fn make_unusual(&mut self, record: &mut [u8]) {
-        const UNUSUAL: [i32; 34] = [
-            0,
-            1,
-            2,
-            3,
-            4,
-            5,
-            7,
-            8,
-            9,
-            15,
-            16,
-            17,
-            31,
-            32,
-            33,
-            35,
-            36,
-            255,
-            256,
-            257,
-            512,
-            513,
-            768,
-            769,
-            1024,
-            4096,
-            65536,
-            -1,
-            -2,
-            -3,
-            -256,
-            i32::MIN,
-            i32::MIN + 1,
-            i32::MAX,
-        ];
         let fields = ((record.len() - 1) / 4).min(3);
         if fields == 0 {
             return;

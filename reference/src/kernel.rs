@@ -85,7 +85,7 @@ pub struct Pool {
     pub waiters: TaskSet,
 }
 
-const _: () = assert!(BLOCKS <= 32);
+const _: () = assert!(BLOCKS <= u32::BITS as usize);
 
 /// How a queue is ordered.
 #[derive(Clone, Copy, PartialEq, Eq, Debug)]

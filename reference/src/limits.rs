@@ -56,6 +56,18 @@ pub const E_NOEXS: i32 = -42;
 pub const E_TMOUT: i32 = -50;
 pub const E_DLT: i32 = -51;
 
+/// The limits of the ranges with the numbers beside them, and others, upwards and each once.
+pub fn near_limits(others: &[u32]) -> Vec<u32> {
+    let numbers = [TASKS, MUTEXES, BUFFERS, POOLS, BLOCKS];
+    let sizes = [usize::from(PRIORITIES), MESSAGE, STRETCH, BLOCK_SIZE];
+    let limits = numbers.into_iter().chain(sizes).map(|limit| limit as u32);
+    let mut near: Vec<u32> = limits.flat_map(|limit| limit - 1..=limit + 1).collect();
+    near.extend(others);
+    near.sort_unstable();
+    near.dedup();
+    near
+}
+
 /// What a message of this length takes in the store.
 pub const fn cost(length: usize) -> usize {
     LENGTH + length.next_multiple_of(LENGTH)

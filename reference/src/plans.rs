@@ -1,6 +1,6 @@
 //! Longer plans of the generator: situations that single random calls seldom make.
 
-use crate::calls::{number, CallMaker};
+use crate::calls::{number, CallMaker, LEAST_URGENT};
 use crate::kernel::Order;
 use crate::limits::{MUTEX_CEILING, MUTEX_INHERIT};
 use crate::number::{BufferNo, MutexNo, TaskNo};
@@ -70,7 +70,8 @@ impl CallMaker {
     /// Gives the tasks that take part priorities of their own again.
     fn set_priorities(&mut self, steps: &mut Vec<Step>, tasks: &[TaskNo]) {
         for &task in tasks {
-            let priority = if self.random.percent(30) { 0 } else { self.random.between(2, 16) };
+            let priority =
+                if self.random.percent(30) { 0 } else { self.random.between(2, LEAST_URGENT) };
             steps.push(Step::anyone(Call::ChgPri { task: number(task), priority }));
         }
     }
@@ -187,11 +188,12 @@ impl CallMaker {
         let call = self.snd_mbf(buffer, longest, -1);
         steps.push(Step::by(high, call));
         // The second comes later at the same priority, so it stands behind.
-        steps.push(Step::by(low, Call::ChgPri { task: 0, priority: 16 }));
+        steps.push(Step::by(low, Call::ChgPri { task: 0, priority: LEAST_URGENT }));
         let timeout = self.wait_timeout();
         let call = self.snd_mbf(buffer, 4, timeout);
         steps.push(Step::by(low, call));
-        let (less_urgent, more_urgent) = (self.random.between(10, 16), self.random.between(3, 5));
+        let (less_urgent, more_urgent) =
+            (self.random.between(10, LEAST_URGENT), self.random.between(3, 5));
         steps.push(Step::anyone(Call::ChgPri { task: number(low), priority: less_urgent }));
         steps.push(Step::anyone(Call::ChgPri { task: number(high), priority: more_urgent }));
         let priority = self.random.between(1, 4);
@@ -222,7 +224,8 @@ impl CallMaker {
         steps.push(Step::by(waiter, lock(timeout)));
         let call = self.snd_mbf(buffer, 4, -1);
         steps.push(Step::by(next, call));
-        let (less_urgent, more_urgent) = (self.random.between(9, 16), self.random.between(2, 8));
+        let (less_urgent, more_urgent) =
+            (self.random.between(9, LEAST_URGENT), self.random.between(2, 8));
         steps.push(Step::anyone(Call::ChgPri { task: number(next), priority: more_urgent }));
         steps.push(Step::anyone(Call::ChgPri { task: number(raised), priority: less_urgent }));
         // The waiter goes by its timeout, its end or the mutex's.
@@ -237,7 +240,7 @@ impl CallMaker {
             }
             2 => {
                 let task = number(waiter);
-                steps.push(Step::by(last, Call::ChgPri { task, priority: 16 }));
+                steps.push(Step::by(last, Call::ChgPri { task, priority: LEAST_URGENT }));
             }
             _ => steps.extend((0..timeout).map(|_| Step::anyone(Call::Tick))),
         }

@@ -1,6 +1,8 @@
 //! Lent states for trying a validity check: valid ones sampled along busy scripts, ones that fail
 //! a single clause, and ones with words and bytes of any value.
 
+use std::sync::LazyLock;
+
 use crate::alter::alter;
 use crate::boundary::{reach, Boundary, BOUNDARIES};
 use crate::clauses::{Clause, CLAUSES};
@@ -64,7 +66,7 @@ pub fn state_at_boundary(boundary: Boundary, seed: u64, index: u64) -> State {
 
 /// A valid state with much going on: the busiest of a few along a script.
 pub fn busy(random: &mut Random) -> State {
-    let script = generate(random.word(), random.word(), 160, &mut Tally::default());
+    let script = generate(random.word(), random.word(), 10 * TASKS, &mut Tally::default());
     let mut kernel = Kernel::fresh();
     let mut out = Outcome::default();
     let (mut at, mut along) = (0, vec![State::of(&kernel)]);
@@ -149,61 +151,22 @@ fn any_byte(random: &mut Random, old: u8) -> u8 {
 }
 
 /// Where each list begins, and where the last one ends.
-const LISTS: [usize; 23] = [
-    at::PLACE,
-    at::OBJECT,
-    at::ARGUMENT,
-    at::INITIAL,
-    at::BASE,
-    at::CURRENT,
-    at::LEFT,
-    at::ARRIVALS,
-    at::MUTEX_EXISTS,
-    at::MUTEX_ATTRIBUTE,
-    at::CEILING,
-    at::HOLDER,
-    at::BUFFER_EXISTS,
-    at::BUFFER_ATTRIBUTE,
-    at::BUFSZ,
-    at::MAXMSZ,
-    at::USED,
-    at::POOL_EXISTS,
-    at::POOL_ATTRIBUTE,
-    at::COUNT,
-    at::SIZE,
-    at::FLAGS,
-    at::END,
-];
+static LISTS: LazyLock<Vec<usize>> = LazyLock::new(|| {
+    let mut lists = [&TASK_LISTS[..], &MUTEX_LISTS, &BUFFER_LISTS, &POOL_LISTS].concat();
+    lists.extend([at::ARRIVALS, at::FLAGS, at::END]);
+    lists.sort_unstable();
+    lists
+});
+
+/// Numbers at the ends of ranges and far beyond them.
+static LIMITS: LazyLock<Vec<u32>> = LazyLock::new(|| {
+    let places = [GETTING - 1, GETTING, GETTING + 1];
+    let others = [0, 1, 2, 769, 1024, POOL_BYTES as u32];
+    let beyond = [i32::MAX as u32, 1 << 31, u32::MAX - 1, u32::MAX];
+    near_limits(&[&places[..], &others, &beyond].concat())
+});
 
 fn change_word(state: &mut State, random: &mut Random) {
-    const LIMITS: [u32; 26] = [
-        0,
-        1,
-        2,
-        3,
-        4,
-        5,
-        6,
-        7,
-        8,
-        9,
-        15,
-        16,
-        17,
-        31,
-        32,
-        33,
-        255,
-        256,
-        257,
-        769,
-        1024,
-        4096,
-        i32::MAX as u32,
-        1 << 31,
-        u32::MAX - 1,
-        u32::MAX,
-    ];
     let list = random.below(LISTS.len() - 1);
     let (start, end) = (LISTS[list], LISTS[list + 1]);
     let at = start + random.below(end - start);
@@ -220,7 +183,7 @@ fn change_word(state: &mut State, random: &mut Random) {
             state.words[at]
         }
         7 => state.words[other],
-        8 | 9 => random.below(17) as u32,
+        8 | 9 => random.below(PER_TASK) as u32,
         _ => random.pick(&LIMITS),
     };
 }
@@ -234,15 +197,16 @@ fn random_words(random: &mut Random) -> State {
             0 => random.word() as u32,
             1 => random.below(4) as u32,
             2 => random.below(2) as u32,
-            3 => random.pick(&[0, 0, 0, 1, 2, 3, u32::MAX, 1 << 31, 17]),
+            3 => random.pick(&[0, 0, 0, 1, 2, 3, u32::MAX, 1 << 31, TASKS as u32 + 1]),
             _ => *word,
         };
     }
     if choice == 4 {
         for p in 1..PER_POOL {
             state.set(at::POOL_EXISTS, p, 1);
-            state.set(at::COUNT, p, random.pick(&[16, 1 << 16, 1 << 20, 1 << 31, u32::MAX]));
-            state.set(at::SIZE, p, random.pick(&[256, 1 << 12, 1 << 16, 1 << 31, u32::MAX]));
+            let (count, size) = (BLOCKS as u32, BLOCK_SIZE as u32);
+            state.set(at::COUNT, p, random.pick(&[count, 1 << 16, 1 << 20, 1 << 31, u32::MAX]));
+            state.set(at::SIZE, p, random.pick(&[size, 1 << 12, 1 << 16, 1 << 31, u32::MAX]));
         }
     }
     if random.percent(50) {

@@ -47,6 +47,15 @@ pub mod at {
 /// Words of a lent state.
 pub const WORDS: usize = at::END;
 
+/// The lists of each kind of object; arrivals and flags are apart.
+pub const TASK_LISTS: [usize; 7] =
+    [at::PLACE, at::OBJECT, at::ARGUMENT, at::INITIAL, at::BASE, at::CURRENT, at::LEFT];
+pub const MUTEX_LISTS: [usize; 4] =
+    [at::MUTEX_EXISTS, at::MUTEX_ATTRIBUTE, at::CEILING, at::HOLDER];
+pub const BUFFER_LISTS: [usize; 5] =
+    [at::BUFFER_EXISTS, at::BUFFER_ATTRIBUTE, at::BUFSZ, at::MAXMSZ, at::USED];
+pub const POOL_LISTS: [usize; 4] = [at::POOL_EXISTS, at::POOL_ATTRIBUTE, at::COUNT, at::SIZE];
+
 /// What the place words mean.
 pub const ABSENT: u32 = 0;
 pub const DORMANT: u32 = 1;

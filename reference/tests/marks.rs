@@ -130,12 +130,12 @@ fn timeout_minus_one_waits_and_minus_two_is_refused() {
 #[test]
 fn ceilings() {
     let mut test = TestKernel::new();
-    assert_eq!(test.code(cre_mtx(3, 16)), 1);
+    assert_eq!(test.code(cre_mtx(3, LEAST_URGENT)), 1);
     assert_eq!(test.code(cre_mtx(3, 1)), 2);
-    assert_eq!(test.code(cre_mtx(3, 17)), E_PAR);
+    assert_eq!(test.code(cre_mtx(3, LEAST_URGENT + 1)), E_PAR);
     assert_eq!(test.code(cre_mtx(3, 0)), E_PAR);
     for attribute in 0..=2 {
-        let ceiling = [17, 0, i32::MIN][attribute as usize];
+        let ceiling = [LEAST_URGENT + 1, 0, i32::MIN][attribute as usize];
         let mutex = test.code(cre_mtx(attribute, ceiling));
         assert_eq!(mutex, attribute + 3);
         assert_eq!(test.kernel.mutex(MutexNo::new(mutex).unwrap()).unwrap().ceiling, 0);

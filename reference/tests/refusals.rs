@@ -7,7 +7,7 @@ use reference::limits::*;
 use reference::{run_record, Answer, Call, Kernel};
 
 /// Tasks: 1 (8) runs, 2 is dormant, 3 (4) waits to receive from buffer 2, 4 (10) is ready, 5 (12)
-/// waits for mutex 5, 6 to 16 are absent. Mutexes: 1 free, 2 held by the caller, 3 by task 3,
+/// waits for mutex 5, 6 and above are absent. Mutexes: 1 free, 2 held by the caller, 3 by task 3,
 /// 4 free with ceiling 9, 5 held by task 4 with ceiling 9, 6 held by 3 with ceiling 3, 7 and 8
 /// absent. Buffers: 1 stores nothing, 2 is awaited, 3 and 4 absent. Pools: 1 has its one block
 /// handed out, 2 has two free blocks, 3 and 4 are absent.
@@ -45,7 +45,7 @@ fn plain() -> TestKernel {
     test
 }
 
-/// Every number of every kind is in use; the pools take 4,096 bytes.
+/// Every number of every kind is in use; the pools take POOL_BYTES.
 fn full() -> TestKernel {
     let mut test = TestKernel::new();
     while test.code(cre_tsk(9)) > 0 {}
@@ -79,14 +79,15 @@ fn order_2_nobody_runs() {
         all(&mut test, E_CTX, &[
             Call::ExtTsk,
             // Alone, and with every later order.
-            cre_tsk(8), cre_tsk(0), del_tsk(1), del_tsk(0), del_tsk(16), sta_tsk(1), sta_tsk(17),
-            sta_tsk(16), ter_tsk(1), ter_tsk(0), ter_tsk(16), chg_pri(0, 8), chg_pri(1, 17),
-            chg_pri(17, 8), chg_pri(16, 8), cre_mtx(0, 0), cre_mtx(4, 0), cre_mtx(3, 0),
-            del_mtx(1), del_mtx(9), loc_mtx(1, 0), loc_mtx(1, -2), loc_mtx(9, 0), loc_mtx(8, 0),
-            unl_mtx(1), unl_mtx(9), cre_mbf(0, 8, 8), cre_mbf(2, 0, 1), cre_mbf(0, -1, 1),
-            cre_mbf(0, 257, 1), del_mbf(1), del_mbf(5), snd_mbf(1, 1, 0), snd_mbf(1, 0, 0),
-            snd_mbf(5, 1, 0), snd_mbf(1, 1, -2), rcv_mbf(1, 0), rcv_mbf(1, -2), rcv_mbf(5, 0),
-            cre_mpf(0, 1, 1), cre_mpf(2, 1, 1), cre_mpf(0, 17, 1), cre_mpf(0, 16, 256),
+            cre_tsk(8), cre_tsk(0), del_tsk(1), del_tsk(0), del_tsk(LAST_TASK), sta_tsk(1),
+            sta_tsk(LAST_TASK + 1), sta_tsk(LAST_TASK), ter_tsk(1), ter_tsk(0), ter_tsk(LAST_TASK),
+            chg_pri(0, 8), chg_pri(1, LEAST_URGENT + 1), chg_pri(LAST_TASK + 1, 8),
+            chg_pri(LAST_TASK, 8), cre_mtx(0, 0), cre_mtx(4, 0), cre_mtx(3, 0), del_mtx(1),
+            del_mtx(9), loc_mtx(1, 0), loc_mtx(1, -2), loc_mtx(9, 0), loc_mtx(8, 0), unl_mtx(1),
+            unl_mtx(9), cre_mbf(0, 8, 8), cre_mbf(2, 0, 1), cre_mbf(0, -1, 1), cre_mbf(0, 257, 1),
+            del_mbf(1), del_mbf(5), snd_mbf(1, 1, 0), snd_mbf(1, 0, 0), snd_mbf(5, 1, 0),
+            snd_mbf(1, 1, -2), rcv_mbf(1, 0), rcv_mbf(1, -2), rcv_mbf(5, 0), cre_mpf(0, 1, 1),
+            cre_mpf(2, 1, 1), cre_mpf(0, MOST_BLOCKS + 1, 1), cre_mpf(0, MOST_BLOCKS, 256),
             del_mpf(1), del_mpf(5), get_mpf(1, 0), get_mpf(1, -2), get_mpf(5, 0), rel_mpf(1, 1),
             rel_mpf(5, 1),
         ]);
@@ -100,7 +101,7 @@ fn order_3_attributes() {
     for mut test in [plain(), full()] {
         for attribute in [-1, 4, 256, i32::MIN, i32::MAX] {
             // Also with order 4 (ceiling, sizes), 9 (in the full one) and 10.
-            all(&mut test, E_RSATR, &[cre_mtx(attribute, 1), cre_mtx(attribute, 17)]);
+            all(&mut test, E_RSATR, &[cre_mtx(attribute, 1), cre_mtx(attribute, LEAST_URGENT + 1)]);
         }
         for attribute in [-1, 2, 3, 256, 257, i32::MIN, i32::MAX] {
             all(&mut test, E_RSATR, &[
@@ -111,7 +112,7 @@ fn order_3_attributes() {
         for attribute in [-1, 2, 3, 128, 258, 514, 1024, 1025, 65_536, i32::MIN, i32::MIN + 1] {
             all(&mut test, E_RSATR, &[
                 cre_mpf(attribute, 1, 1), cre_mpf(attribute, 0, 1), cre_mpf(attribute, 1, 257),
-                cre_mpf(attribute, 16, 256),
+                cre_mpf(attribute, MOST_BLOCKS, 256),
             ]);
         }
     }
@@ -126,13 +127,13 @@ fn order_3_attributes() {
 #[rustfmt::skip]
 fn order_4_from_the_call_alone() {
     for mut test in [plain(), full()] {
-        for priority in [0, -1, 17, 257, i32::MIN, i32::MAX] {
+        for priority in [0, -1, LEAST_URGENT + 1, 257, i32::MIN, i32::MAX] {
             all(&mut test, E_PAR, &[cre_tsk(priority), cre_mtx(3, priority)]);
         }
-        for priority in [-1, 17, 256, i32::MIN, i32::MAX] {
+        for priority in [-1, LEAST_URGENT + 1, 256, i32::MIN, i32::MAX] {
             // With order 5, 6 and 8 as well: task 3 holds a mutex of ceiling 3.
             all(&mut test, E_PAR, &[
-                chg_pri(0, priority), chg_pri(3, priority), chg_pri(17, priority),
+                chg_pri(0, priority), chg_pri(3, priority), chg_pri(LAST_TASK + 1, priority),
                 chg_pri(-1, priority), chg_pri(9, priority),
             ]);
         }
@@ -156,7 +157,8 @@ fn order_4_from_the_call_alone() {
         all(&mut test, E_PAR, &[
             cre_mbf(0, -1, 8), cre_mbf(0, i32::MIN, 8), cre_mbf(0, 8, 0), cre_mbf(0, 8, 33),
             cre_mbf(0, 8, -1), cre_mbf(1, 257, 33), cre_mbf(1, 257, 0), cre_mpf(0, 0, 256),
-            cre_mpf(0, 17, 256), cre_mpf(0, 16, 0), cre_mpf(0, 16, 257), cre_mpf(0, -1, -1),
+            cre_mpf(0, MOST_BLOCKS + 1, 256), cre_mpf(0, MOST_BLOCKS, 0),
+            cre_mpf(0, MOST_BLOCKS, 257), cre_mpf(0, -1, -1),
         ]);
     }
 }
@@ -192,9 +194,9 @@ fn order_5_numbers() {
 fn order_6_no_such_object() {
     let mut test = plain();
     all(&mut test, E_NOEXS, &[
-        del_tsk(6), sta_tsk(6), ter_tsk(6), ter_tsk(16), chg_pri(6, 8), chg_pri(6, 0), del_mtx(7),
-        loc_mtx(7, -1), loc_mtx(8, 0), unl_mtx(7), del_mbf(3), snd_mbf(3, 1, -1), rcv_mbf(4, 0),
-        del_mpf(3), get_mpf(3, -1), rel_mpf(3, 1),
+        del_tsk(6), sta_tsk(6), ter_tsk(6), ter_tsk(LAST_TASK), chg_pri(6, 8), chg_pri(6, 0),
+        del_mtx(7), loc_mtx(7, -1), loc_mtx(8, 0), unl_mtx(7), del_mbf(3), snd_mbf(3, 1, -1),
+        rcv_mbf(4, 0), del_mpf(3), get_mpf(3, -1), rel_mpf(3, 1),
         // With order 7.
         snd_mbf(3, 33, 0), rel_mpf(4, 0),
     ]);
@@ -209,7 +211,7 @@ fn order_7_from_the_object() {
     }
     // Towards a waiting receiver as well.
     all(&mut test, E_PAR, &[snd_mbf(2, 33, 0)]);
-    for block in [0, -1, 2, 3, 17, 32, 33, 257, i32::MIN, i32::MAX] {
+    for block in [0, -1, 2, 3, MOST_BLOCKS + 1, 32, 33, 257, i32::MIN, i32::MAX] {
         all(&mut test, E_PAR, &[rel_mpf(1, block)]);
     }
     // In range but not handed out.
@@ -268,7 +270,7 @@ fn order_9_every_number_in_use() {
     all(&mut test, E_LIMIT, &[
         cre_tsk(8), cre_mtx(0, 0), cre_mtx(3, 8), cre_mbf(0, 0, 1), cre_mpf(0, 1, 1),
         // With order 10.
-        cre_mbf(0, 257, 1), cre_mbf(1, i32::MAX, 32), cre_mpf(0, 16, 256),
+        cre_mbf(0, 257, 1), cre_mbf(1, i32::MAX, 32), cre_mpf(0, MOST_BLOCKS, 256),
     ]);
     // The smallest free number is used again.
     test.ok(del_tsk(9));
@@ -292,8 +294,9 @@ fn order_10_no_memory() {
     }
     assert_eq!(test.code(cre_mbf(0, 256, 32)), 3);
     // The live pools take 192.
-    all(&mut test, E_NOMEM, &[cre_mpf(0, 16, 256), cre_mpf(0, 16, 245)]);
-    assert_eq!(test.code(cre_mpf(0, 16, 244)), 3);
+    let most = (POOL_BYTES as i32 - 192) / MOST_BLOCKS;
+    all(&mut test, E_NOMEM, &[cre_mpf(0, MOST_BLOCKS, 256), cre_mpf(0, MOST_BLOCKS, most + 1)]);
+    assert_eq!(test.code(cre_mpf(0, MOST_BLOCKS, most)), 3);
 }
 
 #[test]
@@ -334,7 +337,7 @@ fn order_1_comes_before_all() {
 
 #[test]
 fn log_area_of_another_length() {
-    for length in [0, 1, 511, 513, 1024] {
+    for length in [0, 1, LOG - 1, LOG + 1, 2 * LOG] {
         let mut words = Kernel::fresh().to_words();
         let before = words;
         let mut log = vec![9; length];

@@ -1,4 +1,4 @@
-//! The five shortcuts a good student takes, each as a case that the shortcut fails.
+//! 01's shortcuts a good student takes, each as a case that the shortcut fails.
 
 mod common;
 
@@ -33,7 +33,7 @@ fn long_chain() -> (TestKernel, Vec<i32>, i32) {
     let members: Vec<i32> = (0..5)
         .map(|i| {
             assert_eq!(test.code(cre_mtx(2, 0)), i + 1);
-            test.start(16 - i)
+            test.start(LEAST_URGENT - i)
         })
         .collect();
     for (i, &task) in members.iter().enumerate() {
@@ -56,7 +56,8 @@ fn long_chain() -> (TestKernel, Vec<i32>, i32) {
 /// Lowering only the first holder leaves the rest of the chain raised.
 #[test]
 fn lowering_only_the_first_holder() {
-    let bases = [12, 12, 12, 12, 12];
+    // Without the urgent waiter the most urgent member of the chain counts for all.
+    let bases = [PRIORITIES - 4; 5];
     // The end of the raise, in each of its ways.
     for way in 0..4 {
         let (mut test, members, urgent) = long_chain();
@@ -67,7 +68,7 @@ fn lowering_only_the_first_holder() {
                 assert_eq!(test.ended(), [(urgent, E_TMOUT)]);
             }
             1 => test.ok(ter_tsk(urgent)),
-            2 => test.ok(chg_pri(urgent, 13)),
+            2 => test.ok(chg_pri(urgent, LEAST_URGENT - 3)),
             _ => {
                 test.ok(del_mtx(5));
                 assert_eq!(test.ended(), [(urgent, E_DLT)]);
@@ -190,13 +191,14 @@ fn multiplying_before_testing() {
         assert_eq!(test.code(cre_mpf(0, count, size)), E_PAR, "{count} {size}");
         assert_eq!(test.code(cre_mpf(0, size, count)), E_PAR, "{size} {count}");
     }
-    assert_eq!(test.code(cre_mpf(0, 17, 1)), E_PAR);
-    assert_eq!(test.code(cre_mpf(0, 16, 255)), 1); // 4,080
-    assert_eq!(test.code(cre_mpf(0, 1, 17)), E_NOMEM);
-    assert_eq!(test.code(cre_mpf(0, 1, 16)), 2); // 4,096
+    assert_eq!(test.code(cre_mpf(0, MOST_BLOCKS + 1, 1)), E_PAR);
+    assert_eq!(test.code(cre_mpf(0, MOST_BLOCKS, 255)), 1);
+    let left = POOL_BYTES as i32 - MOST_BLOCKS * 255;
+    assert_eq!(test.code(cre_mpf(0, 1, left + 1)), E_NOMEM);
+    assert_eq!(test.code(cre_mpf(0, 1, left)), 2);
     assert_eq!(test.code(cre_mpf(0, 1, 1)), E_NOMEM);
     test.ok(del_mpf(1));
-    assert_eq!(test.code(cre_mpf(0, 16, 256)), E_NOMEM);
+    assert_eq!(test.code(cre_mpf(0, MOST_BLOCKS, 256)), E_NOMEM);
     test.ok(del_mpf(2));
-    assert_eq!(test.code(cre_mpf(0, 16, 256)), 1);
+    assert_eq!(test.code(cre_mpf(0, MOST_BLOCKS, 256)), 1);
 }

@@ -57,21 +57,21 @@ fn every_field_is_altered() {
     let altered = |clause: Clause| -> usize {
         let words = (0..400).map(|index| {
             let state = state_failing(clause, 8, index);
-            let entries = [at::PLACE, at::OBJECT, at::ARGUMENT, at::INITIAL, at::BASE, at::CURRENT]
+            let lists = [&TASK_LISTS[..], &MUTEX_LISTS, &BUFFER_LISTS, &POOL_LISTS].concat();
+            let mut entries = lists
                 .into_iter()
-                .chain([at::LEFT, at::MUTEX_EXISTS, at::MUTEX_ATTRIBUTE, at::CEILING, at::HOLDER])
-                .chain([at::BUFFER_EXISTS, at::BUFFER_ATTRIBUTE, at::BUFSZ, at::MAXMSZ, at::USED])
-                .chain([at::POOL_EXISTS, at::POOL_ATTRIBUTE, at::COUNT, at::SIZE])
                 .chain(at::FLAGS..at::FLAGS + PER_BLOCK)
                 .chain((1..PER_POOL).map(|p| at::FLAGS + p * PER_BLOCK));
-            entries.into_iter().find(|&at| state.words[at] != 0)
+            entries.find(|&at| state.words[at] != 0)
         });
         let mut found: Vec<usize> = words.flatten().collect();
         found.sort_unstable();
         found.dedup();
         found.len()
     };
-    assert_eq!(zeros.map(altered), [7, 4, 5, 4 + PER_BLOCK, POOLS]);
+    let [tasks, mutexes] = [TASK_LISTS.len(), MUTEX_LISTS.len()];
+    let [buffers, pools] = [BUFFER_LISTS.len(), POOL_LISTS.len() + PER_BLOCK];
+    assert_eq!(zeros.map(altered), [tasks, mutexes, buffers, pools, POOLS]);
 }
 
 #[test]

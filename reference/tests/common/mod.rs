@@ -6,6 +6,11 @@ use reference::limits::*;
 use reference::number::TaskNo;
 use reference::{check, Answer, Call, Got, Kernel, Outcome};
 
+/// The last task, the least urgent priority and the most blocks of a pool, as fields of calls.
+pub const LAST_TASK: i32 = TASKS as i32;
+pub const LEAST_URGENT: i32 = PRIORITIES as i32;
+pub const MOST_BLOCKS: i32 = BLOCKS as i32;
+
 pub struct TestKernel {
     pub kernel: Kernel,
     pub out: Outcome,
@@ -148,7 +153,7 @@ pub fn cre_mbf(attribute: i32, bufsz: i32, maxmsz: i32) -> Call {
 pub fn del_mbf(buffer: i32) -> Call {
     Call::DelMbf { buffer }
 }
-/// Sends `msgsz` bytes 1, 2, 3, ... of 32.
+/// Sends `msgsz` of the bytes 1, 2, 3, ...
 pub fn snd_mbf(buffer: i32, msgsz: i32, timeout: i32) -> Call {
     Call::SndMbf { buffer, msgsz, timeout, bytes: std::array::from_fn(|i| i as u8 + 1) }
 }
