@@ -1,8 +1,8 @@
 //! The ends of the ranges that validity allows: what makes a valid state reach one.
 
+use crate::lent_state::{flags_at, make_wait, messages, State};
 use crate::limits::*;
 use crate::random::Random;
-use crate::states::{any_of, make_wait, messages, row, State};
 use crate::words::*;
 
 /// A number that is the first or the last of its range, or just enough.
@@ -59,7 +59,7 @@ pub(crate) fn reach(boundary: Boundary, state: &mut State, random: &mut Random) 
             reach_task(boundary, state, random)
         }
         LeftOne | LeftMost | LeftEndless => {
-            let t = any_of(random, 1..PER_TASK, |t| state.is_waiting(t))?;
+            let t = random.any_of(1..PER_TASK, |t| state.is_waiting(t))?;
             let left = match boundary {
                 LeftOne => 1,
                 LeftMost => i32::MAX as u32,
@@ -82,7 +82,7 @@ pub(crate) fn reach(boundary: Boundary, state: &mut State, random: &mut Random) 
 
 /// Makes a task that is not started ready, the last of all.
 fn start(state: &mut State, random: &mut Random, t: usize) -> Option<()> {
-    let end = any_of(random, 0..TASKS, |i| {
+    let end = random.any_of(0..TASKS, |i| {
         state.word(at::ARRIVALS, i) == 0 && (i == 0 || state.word(at::ARRIVALS, i - 1) != 0)
     })?;
     if state.word(at::PLACE, t) == ABSENT {
@@ -106,7 +106,7 @@ fn reach_task(boundary: Boundary, state: &mut State, random: &mut Random) -> Opt
         }
         return Some(());
     }
-    let t = any_of(random, 1..PER_TASK, |t| state.word(at::PLACE, t) != ABSENT)?;
+    let t = random.any_of(1..PER_TASK, |t| state.word(at::PLACE, t) != ABSENT)?;
     match boundary {
         InitialFirst => state.set(at::INITIAL, t, 1),
         InitialLast => state.set(at::INITIAL, t, last),
@@ -119,7 +119,7 @@ fn reach_task(boundary: Boundary, state: &mut State, random: &mut Random) -> Opt
 
 fn reach_sender(boundary: Boundary, state: &mut State, random: &mut Random) -> Option<()> {
     let sends = |t: usize| state.word(at::PLACE, t) == SENDING;
-    let t = any_of(random, 1..PER_TASK, sends)?;
+    let t = random.any_of(1..PER_TASK, sends)?;
     let b = state.word(at::OBJECT, t) as usize;
     match boundary {
         SenderShortest => {
@@ -130,7 +130,8 @@ fn reach_sender(boundary: Boundary, state: &mut State, random: &mut Random) -> O
         _ => {
             let cost = cost(state.word(at::ARGUMENT, t) as usize) as u32;
             let bufsz = state.word(at::USED, b) + cost - 1;
-            // Only with the first sender's length is the state still valid and one byte more too many.
+            // With one byte more the first sender's message must fit, so that the state is not
+            // valid; without it the state has to be.
             state.set(at::BUFSZ, b, bufsz + 1);
             if state.is_valid() {
                 return None;
@@ -144,7 +145,7 @@ fn reach_sender(boundary: Boundary, state: &mut State, random: &mut Random) -> O
 fn reach_mutex(boundary: Boundary, state: &mut State, random: &mut Random) -> Option<()> {
     let ceiling = u32::from(MUTEX_CEILING);
     let exists = |m: usize| state.word(at::MUTEX_EXISTS, m) == 1;
-    let m = any_of(random, 1..PER_MUTEX, exists)?;
+    let m = random.any_of(1..PER_MUTEX, exists)?;
     match boundary {
         LastTaskHolds => {
             if !state.is_started(TASKS) {
@@ -165,7 +166,7 @@ fn reach_mutex(boundary: Boundary, state: &mut State, random: &mut Random) -> Op
             let waiters: Vec<usize> = state.waiters(LOCKING, m).collect();
             let t = match boundary {
                 BaseAtHeld => state.word(at::HOLDER, m) as usize,
-                _ => random.maybe(&waiters)?,
+                _ => random.pick_if_any(&waiters)?,
             };
             if t == 0 {
                 return None;
@@ -182,7 +183,7 @@ fn reach_mutex(boundary: Boundary, state: &mut State, random: &mut Random) -> Op
 }
 
 fn reach_buffer(boundary: Boundary, state: &mut State, random: &mut Random) -> Option<()> {
-    let b = any_of(random, 1..PER_BUFFER, |b| state.word(at::BUFFER_EXISTS, b) == 1)?;
+    let b = random.any_of(1..PER_BUFFER, |b| state.word(at::BUFFER_EXISTS, b) == 1)?;
     let used = state.word(at::USED, b);
     let lengths = messages(state, b).into_iter().map(|at| u32::from(state.store[at]));
     let longest = lengths.max();
@@ -204,7 +205,7 @@ fn reach_buffer(boundary: Boundary, state: &mut State, random: &mut Random) -> O
 }
 
 fn reach_pool(boundary: Boundary, state: &mut State, random: &mut Random) -> Option<()> {
-    let p = any_of(random, 1..PER_POOL, |p| state.word(at::POOL_EXISTS, p) == 1)?;
+    let p = random.any_of(1..PER_POOL, |p| state.word(at::POOL_EXISTS, p) == 1)?;
     let count = state.word(at::COUNT, p) as usize;
     match boundary {
         PoolAttribute => {
@@ -213,25 +214,28 @@ fn reach_pool(boundary: Boundary, state: &mut State, random: &mut Random) -> Opt
         }
         CountOne => {
             state.set(at::COUNT, p, 1);
-            state.words[row(p) + 2..][..BLOCKS - 1].fill(0);
+            state.words[flags_at(p) + 2..][..BLOCKS - 1].fill(0);
         }
         CountMost => {
             state.set(at::COUNT, p, BLOCKS as u32);
-            state.words[row(p)..][count + 1..].iter_mut().take(BLOCKS - count).for_each(|f| *f = 1);
+            state.words[flags_at(p)..][count + 1..]
+                .iter_mut()
+                .take(BLOCKS - count)
+                .for_each(|f| *f = 1);
         }
         SizeOne => state.set(at::SIZE, p, 1),
         SizeMost => state.set(at::SIZE, p, BLOCK_SIZE as u32),
-        LastBlock => state.words[row(p) + count] = 1,
+        LastBlock => state.words[flags_at(p) + count] = 1,
         _ => {
             let bytes = |p: usize| (state.word(at::COUNT, p) * state.word(at::SIZE, p)) as usize;
             let others: usize = (1..PER_POOL).filter(|&other| other != p).map(bytes).sum();
             let left = POOL_BYTES.checked_sub(others)?;
             // A count that the bytes left divide by, with its new blocks handed out.
             let fits = |n: usize| left.is_multiple_of(n) && (1..=BLOCK_SIZE).contains(&(left / n));
-            let new = any_of(random, count..BLOCKS + 1, fits)?;
+            let new = random.any_of(count..BLOCKS + 1, fits)?;
             state.set(at::COUNT, p, new as u32);
             state.set(at::SIZE, p, (left / new) as u32);
-            state.words[row(p) + count + 1..row(p) + new + 1].fill(1);
+            state.words[flags_at(p) + count + 1..flags_at(p) + new + 1].fill(1);
         }
     }
     Some(())

@@ -1,7 +1,7 @@
 //! The clauses of validity one by one. Each is told from any words at all and takes no other for
 //! granted: a number out of its range is its own clause's failure, and the others pass over it.
-//! [`check`](crate::check) asks the same in another way, so that the one can be held against the
-//! other.
+//! [`check`](crate::valid::check) asks the same in another way, so that the one can be held
+//! against the other.
 
 use std::borrow::Cow;
 
@@ -12,7 +12,7 @@ use crate::words::*;
 /// A clause of 01's paragraph "Sound".
 #[derive(Clone, Copy, PartialEq, Eq, PartialOrd, Ord, Hash, Debug)]
 pub enum Clause {
-    // "an area not exactly 1,024 or 512 bytes", and a state of another length.
+    // An area not exactly STORE or OUTBOX bytes, and a state of another length.
     StateLength,
     StoreLength,
     OutboxLength,
@@ -46,7 +46,7 @@ pub enum Clause {
     PoolFlag,
     /// No flag beyond the pool's count.
     PoolFlagBeyond,
-    /// Counts times sizes sum to at most 4,096.
+    /// Counts times sizes sum to at most POOL_BYTES.
     PoolSum,
     // "unused entries as in the fresh bench"
     TaskUnused,

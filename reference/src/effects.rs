@@ -193,7 +193,7 @@ impl Kernel {
         let (number, &mut mutex) = self.live_mutex(mutex)?;
         self.end_all(mutex.waiters, mutex.order(), out);
         self.mutexes[number.index()] = None;
-        if mutex.lifts() {
+        if mutex.affects_priorities() {
             self.settle();
         }
         DONE
@@ -239,14 +239,14 @@ impl Kernel {
     /// Hands a held mutex to its first waiter, or frees it.
     fn give_up(&mut self, number: MutexNo, out: &mut Outcome) {
         let Some(mutex) = self.mutexes[number.index()] else { return };
-        let heir = self.first(mutex.waiters, mutex.order());
-        if let Some(heir) = heir {
-            self.end_wait(heir, E_OK, Got::Nothing, out);
+        let next_holder = self.first(mutex.waiters, mutex.order());
+        if let Some(next_holder) = next_holder {
+            self.end_wait(next_holder, E_OK, Got::Nothing, out);
         }
         if let Some(mutex) = &mut self.mutexes[number.index()] {
-            mutex.holder = heir;
+            mutex.holder = next_holder;
         }
-        if mutex.lifts() {
+        if mutex.affects_priorities() {
             self.settle();
         }
     }
@@ -494,16 +494,16 @@ impl Kernel {
     // Time.
 
     fn tick(&mut self, out: &mut Outcome) -> Result {
-        let mut lifted = false;
+        let mut lock_ended = false;
         for task in self.timed {
             let state = self.task_mut(task);
             state.left -= 1;
             if state.left == 0 {
-                lifted |= matches!(state.place, Place::Locking(_));
+                lock_ended |= matches!(state.place, Place::Locking(_));
                 self.end_wait(task, E_TMOUT, Got::Nothing, out);
             }
         }
-        if lifted {
+        if lock_ended {
             self.settle();
         }
         DONE
@@ -555,7 +555,7 @@ fn created(index: usize) -> Answer {
 
 /// The length of the oldest message of a buffer's stretch.
 fn stored_length(stretch: &[u8; STRETCH]) -> usize {
-    // A message is at most 32 bytes, so the other three bytes of its length are 0.
+    // No length above MESSAGE: the other bytes of the length are 0.
     usize::from(stretch[0])
 }
 
@@ -563,4 +563,35 @@ fn zero_filled(message: &[u8]) -> [u8; MESSAGE] {
     let mut filled = [0; MESSAGE];
     filled[..message.len()].copy_from_slice(message);
     filled
+}
+
+#[cfg(test)]
+mod tests {
+    use super::*;
+
+    /// A kernel whose arrival numbers are nearly used up behaves like any other.
+    #[test]
+    fn arrivals_never_run_out() {
+        let mut low = Kernel::fresh();
+        let mut high = Kernel::fresh();
+        let (mut a, mut b) = (Outcome::default(), Outcome::default());
+        let mut calls = vec![Call::CreMbf { attribute: 1, bufsz: 0, maxmsz: MESSAGE as i32 }];
+        for task in 2..=TASKS as i32 {
+            calls.push(Call::CreTsk { priority: 8 });
+            calls.push(Call::StaTsk { task });
+        }
+        for i in 0..200 {
+            calls.push(Call::ChgPri { task: 0, priority: 8 });
+            calls.push(Call::RcvMbf { buffer: 1, timeout: 3 + i % 5 });
+            calls.push(Call::Tick);
+        }
+        high.next_arrival = u32::MAX - 150;
+        for call in &calls {
+            low.run(call, &mut a);
+            high.run(call, &mut b);
+            assert_eq!(a, b);
+            assert_eq!(low.to_words(), high.to_words());
+        }
+        assert!(high.next_arrival < 10_000, "the tasks were renumbered");
+    }
 }

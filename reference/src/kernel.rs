@@ -2,6 +2,7 @@
 
 use crate::limits::*;
 use crate::number::{BufferNo, MutexNo, PoolNo, TaskNo, TaskSet};
+use crate::words::ENDLESS;
 
 /// Where a task stands.
 #[derive(Clone, Copy, PartialEq, Eq, Debug)]
@@ -30,7 +31,7 @@ pub struct Task {
     pub current: u8,
     /// Milliseconds left of the wait: 0 without a wait, [`ENDLESS`] without a timeout.
     pub left: u32,
-    /// When the task came to its queue; larger is later.
+    /// Number of the arrival in its queue; larger is later.
     pub(crate) arrival: u32,
 }
 
@@ -84,7 +85,7 @@ pub struct Pool {
     pub waiters: TaskSet,
 }
 
-const _: () = assert!(BLOCKS <= 32);
+const _: () = assert!(BLOCKS <= u32::BITS as usize);
 
 /// How a queue is ordered.
 #[derive(Clone, Copy, PartialEq, Eq, Debug)]
@@ -112,7 +113,7 @@ impl Mutex {
 
     /// Whether the mutex has a part in anyone's current priority.
     #[inline]
-    pub fn lifts(&self) -> bool {
+    pub fn affects_priorities(&self) -> bool {
         self.attribute >= MUTEX_INHERIT
     }
 }
@@ -149,7 +150,7 @@ pub struct Kernel {
     pub(crate) timed: TaskSet,
     /// The first of the ready queue, brought up to date at the end of each call.
     pub(crate) running: Option<TaskNo>,
-    /// Stamp of the next task to come to a queue.
+    /// Number of the next arrival in a queue.
     pub(crate) next_arrival: u32,
 }
 
@@ -218,6 +219,14 @@ impl Kernel {
         self.ready
     }
 
+    pub fn store(&self) -> &[u8] {
+        self.store.as_flattened()
+    }
+
+    pub fn outbox(&self) -> &[u8] {
+        self.outbox.as_flattened()
+    }
+
     // Queues.
 
     /// The first task of a queue.
@@ -259,16 +268,13 @@ impl Kernel {
         self.next_arrival += 1;
     }
 
-    /// Takes the smallest stamps that keep every order, so that stamps never run out.
+    /// Takes the smallest numbers that keep every order, so that they never run out.
     #[cold]
     fn renumber(&mut self) {
-        let mut order = [0; TASKS];
-        for (i, place) in order.iter_mut().enumerate() {
-            *place = i;
-        }
+        let mut order: [usize; TASKS] = std::array::from_fn(|i| i);
         order.sort_by_key(|&i| self.tasks[i].arrival);
-        for (stamp, &i) in order.iter().enumerate() {
-            self.tasks[i].arrival = stamp as u32;
+        for (arrival, &i) in order.iter().enumerate() {
+            self.tasks[i].arrival = arrival as u32;
         }
         self.next_arrival = TASKS as u32;
     }
@@ -365,38 +371,5 @@ impl Kernel {
                 _ => return,
             }
         }
-    }
-}
-
-#[cfg(test)]
-mod tests {
-    use super::*;
-    use crate::outcome::Outcome;
-    use crate::record::Call;
-
-    /// A kernel whose stamps are nearly used up behaves like any other.
-    #[test]
-    fn arrivals_never_run_out() {
-        let mut plain = Kernel::fresh();
-        let mut worn = Kernel::fresh();
-        let (mut a, mut b) = (Outcome::default(), Outcome::default());
-        let mut calls = vec![Call::CreMbf { attribute: 1, bufsz: 0, maxmsz: 32 }];
-        for task in 2..=9 {
-            calls.push(Call::CreTsk { priority: 8 });
-            calls.push(Call::StaTsk { task });
-        }
-        for i in 0..200 {
-            calls.push(Call::ChgPri { task: 0, priority: 8 });
-            calls.push(Call::RcvMbf { buffer: 1, timeout: 3 + i % 5 });
-            calls.push(Call::Tick);
-        }
-        worn.next_arrival = u32::MAX - 150;
-        for call in &calls {
-            plain.run(call, &mut a);
-            worn.run(call, &mut b);
-            assert_eq!(a, b);
-            assert_eq!(plain.to_words(), worn.to_words());
-        }
-        assert!(worn.next_arrival < 10_000, "the stamps were taken anew");
     }
 }

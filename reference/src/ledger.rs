@@ -38,7 +38,7 @@ pub struct Ledger {
     buffers: [Option<i32>; BUFFERS + 1],
     pools: [Option<i32>; POOLS + 1],
     /// Every queued task with its queue, as they arrived.
-    standing: Vec<(usize, Queue)>,
+    queued: Vec<(usize, Queue)>,
 }
 
 impl Ledger {
@@ -50,7 +50,7 @@ impl Ledger {
             mutexes: [None; MUTEXES + 1],
             buffers: [None; BUFFERS + 1],
             pools: [None; POOLS + 1],
-            standing: vec![(1, Queue::Ready)],
+            queued: vec![(1, Queue::Ready)],
         }
     }
 
@@ -140,7 +140,7 @@ impl Ledger {
         let entry = self.tasks[task].as_mut().expect("a task");
         entry.base = entry.initial;
         entry.started = false;
-        self.standing.retain(|&(t, _)| t != task);
+        self.queued.retain(|&(t, _)| t != task);
         for mutex in self.mutexes.iter_mut().flatten() {
             if mutex.holder == Some(task) {
                 mutex.holder = None;
@@ -149,12 +149,12 @@ impl Ledger {
     }
 
     fn arrive(&mut self, task: usize, queue: Queue) {
-        self.standing.retain(|&(t, _)| t != task);
-        self.standing.push((task, queue));
+        self.queued.retain(|&(t, _)| t != task);
+        self.queued.push((task, queue));
     }
 
     fn queue_of(&self, task: usize) -> Option<Queue> {
-        self.standing.iter().find(|&&(t, _)| t == task).map(|&(_, queue)| queue)
+        self.queued.iter().find(|&&(t, _)| t == task).map(|&(_, queue)| queue)
     }
 
     fn by_priority(&self, queue: Queue) -> bool {
@@ -203,7 +203,7 @@ impl Ledger {
     /// The tasks of a queue in its order.
     fn in_order(&self, queue: Queue) -> Vec<usize> {
         let mut tasks: Vec<usize> =
-            self.standing.iter().filter(|&&(_, q)| q == queue).map(|&(t, _)| t).collect();
+            self.queued.iter().filter(|&&(_, q)| q == queue).map(|&(t, _)| t).collect();
         if self.by_priority(queue) {
             // A stable sort: equals stay as they arrived.
             tasks.sort_by_key(|&t| self.priority(t));

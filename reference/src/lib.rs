@@ -7,12 +7,16 @@
 
 #![forbid(unsafe_code)]
 
+mod alter;
 pub mod boundary;
+mod calls;
 pub mod clauses;
+mod convert;
 mod effects;
 pub mod generator;
 pub mod kernel;
 pub mod ledger;
+pub mod lent_state;
 pub mod limits;
 pub mod number;
 pub mod outcome;

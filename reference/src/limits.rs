@@ -36,9 +36,6 @@ pub const SCRIPT: usize = 16384;
 /// Bytes of the lent log area of one record.
 pub const LOG: usize = 512;
 
-/// Milliseconds left of a wait without end.
-pub const ENDLESS: u32 = u32::MAX;
-
 /// Mutex attributes.
 pub const MUTEX_FIFO: u8 = 0;
 pub const MUTEX_INHERIT: u8 = 2;
@@ -58,6 +55,18 @@ pub const E_OBJ: i32 = -41;
 pub const E_NOEXS: i32 = -42;
 pub const E_TMOUT: i32 = -50;
 pub const E_DLT: i32 = -51;
+
+/// The limits of the ranges with the numbers beside them, and others, upwards and each once.
+pub fn near_limits(others: &[u32]) -> Vec<u32> {
+    let numbers = [TASKS, MUTEXES, BUFFERS, POOLS, BLOCKS];
+    let sizes = [usize::from(PRIORITIES), MESSAGE, STRETCH, BLOCK_SIZE];
+    let limits = numbers.into_iter().chain(sizes).map(|limit| limit as u32);
+    let mut near: Vec<u32> = limits.flat_map(|limit| limit - 1..=limit + 1).collect();
+    near.extend(others);
+    near.sort_unstable();
+    near.dedup();
+    near
+}
 
 /// What a message of this length takes in the store.
 pub const fn cost(length: usize) -> usize {

@@ -71,7 +71,7 @@ number!(
 #[derive(Clone, Copy, PartialEq, Eq, Default, Debug)]
 pub struct TaskSet(u64);
 
-const _: () = assert!(TASKS <= 64);
+const _: () = assert!(TASKS <= u64::BITS as usize);
 
 impl TaskSet {
     pub const EMPTY: TaskSet = TaskSet(0);

@@ -1,6 +1,6 @@
 //! Longer plans of the generator: situations that single random calls seldom make.
 
-use crate::generator::{number, Generator};
+use crate::calls::{number, CallMaker, LEAST_URGENT};
 use crate::kernel::Order;
 use crate::limits::{MUTEX_CEILING, MUTEX_INHERIT};
 use crate::number::{BufferNo, MutexNo, TaskNo};
@@ -23,9 +23,9 @@ impl Step {
     }
 }
 
-impl Generator<'_> {
-    /// Begins a plan if the kernel has what it takes.
-    pub(crate) fn make_plan(&mut self) {
+impl CallMaker {
+    /// A plan, if the kernel has what it takes.
+    pub fn plan(&mut self) -> Vec<Step> {
         let plan = match self.random.below(8) {
             0 | 1 => self.chain(true),
             2 => self.chain(false),
@@ -35,7 +35,7 @@ impl Generator<'_> {
             6 => self.awaited_ceiling(),
             _ => self.terminated_in_circle(),
         };
-        self.plan.extend(plan.unwrap_or_default());
+        plan.unwrap_or_default()
     }
 
     /// Free inheritance mutexes, in random order.
@@ -68,9 +68,10 @@ impl Generator<'_> {
     }
 
     /// Gives the tasks that take part priorities of their own again.
-    fn spread(&mut self, steps: &mut Vec<Step>, tasks: &[TaskNo]) {
+    fn set_priorities(&mut self, steps: &mut Vec<Step>, tasks: &[TaskNo]) {
         for &task in tasks {
-            let priority = if self.random.percent(30) { 0 } else { self.random.between(2, 16) };
+            let priority =
+                if self.random.percent(30) { 0 } else { self.random.between(2, LEAST_URGENT) };
             steps.push(Step::anyone(Call::ChgPri { task: number(task), priority }));
         }
     }
@@ -98,7 +99,7 @@ impl Generator<'_> {
             steps.push(Step::by(tasks[i], lock(mutexes[(i + 1) % length], timeout)));
         }
         let members = tasks[..length].to_vec();
-        self.spread(&mut steps, &members);
+        self.set_priorities(&mut steps, &members);
         for &outsider in tasks[length..].iter().take(2) {
             if self.random.percent(60) {
                 let into = mutexes[self.random.below(length)];
@@ -124,23 +125,23 @@ impl Generator<'_> {
             return None;
         }
         let lock = |m: MutexNo, timeout| Call::LocMtx { mutex: i32::from(m.get()), timeout };
-        let [victim, partner, third, killer] = [tasks[0], tasks[1], tasks[2], tasks[3]];
+        let [terminated, partner, third, caller] = [tasks[0], tasks[1], tasks[2], tasks[3]];
         let mut steps = vec![
-            Step::by(victim, lock(mutexes[0], -1)),
-            Step::by(victim, lock(mutexes[1], -1)),
+            Step::by(terminated, lock(mutexes[0], -1)),
+            Step::by(terminated, lock(mutexes[1], -1)),
             Step::by(partner, lock(mutexes[2], -1)),
             Step::by(partner, lock(mutexes[0], -1)),
             Step::by(third, lock(mutexes[self.random.below(2)], -1)),
-            Step::by(victim, lock(mutexes[2], -1)),
+            Step::by(terminated, lock(mutexes[2], -1)),
         ];
-        self.spread(&mut steps, &[victim, partner, third]);
-        let task = number(victim);
-        steps.push(Step::by(killer, Call::TerTsk { task }));
+        self.set_priorities(&mut steps, &[terminated, partner, third]);
+        let task = number(terminated);
+        steps.push(Step::by(caller, Call::TerTsk { task }));
         Some(steps)
     }
 
     /// Buffers that nobody waits at and that can hold a short message but no long one.
-    fn quiet_buffers(&mut self) -> Vec<BufferNo> {
+    fn unawaited_buffers(&mut self) -> Vec<BufferNo> {
         let mut buffers = self.buffers();
         buffers.retain(|&b| {
             self.kernel.buffer(b).is_some_and(|b| {
@@ -150,8 +151,8 @@ impl Generator<'_> {
         self.shuffle(buffers)
     }
 
-    fn quiet_ordered_buffer(&mut self) -> Option<BufferNo> {
-        let mut buffers = self.quiet_buffers();
+    fn unawaited_buffer_by_priority(&mut self) -> Option<BufferNo> {
+        let mut buffers = self.unawaited_buffers();
         buffers.retain(|&b| self.kernel.buffer(b).is_some_and(|b| b.attribute == 1));
         buffers.first().copied()
     }
@@ -174,7 +175,7 @@ impl Generator<'_> {
     fn raised_sender(&mut self) -> Option<Vec<Step>> {
         let mutex = *self.free_inheritance().first()?;
         let tasks = self.shuffled_ready();
-        let buffer = self.quiet_ordered_buffer()?;
+        let buffer = self.unawaited_buffer_by_priority()?;
         if tasks.len() < 3 {
             return None;
         }
@@ -182,18 +183,19 @@ impl Generator<'_> {
         let mut steps = Vec::new();
         self.fill_up(&mut steps, buffer)?;
         let lock = |timeout| Call::LocMtx { mutex: i32::from(mutex.get()), timeout };
-        let long = i32::from(self.kernel.buffer(buffer)?.maxmsz);
+        let longest = i32::from(self.kernel.buffer(buffer)?.maxmsz);
         steps.push(Step::by(low, lock(-1)));
-        let call = self.snd_mbf(buffer, long, -1);
+        let call = self.snd_mbf(buffer, longest, -1);
         steps.push(Step::by(high, call));
         // The second comes later at the same priority, so it stands behind.
-        steps.push(Step::by(low, Call::ChgPri { task: 0, priority: 16 }));
+        steps.push(Step::by(low, Call::ChgPri { task: 0, priority: LEAST_URGENT }));
         let timeout = self.wait_timeout();
         let call = self.snd_mbf(buffer, 4, timeout);
         steps.push(Step::by(low, call));
-        let (slow, fast) = (self.random.between(10, 16), self.random.between(3, 5));
-        steps.push(Step::anyone(Call::ChgPri { task: number(low), priority: slow }));
-        steps.push(Step::anyone(Call::ChgPri { task: number(high), priority: fast }));
+        let (less_urgent, more_urgent) =
+            (self.random.between(10, LEAST_URGENT), self.random.between(3, 5));
+        steps.push(Step::anyone(Call::ChgPri { task: number(low), priority: less_urgent }));
+        steps.push(Step::anyone(Call::ChgPri { task: number(high), priority: more_urgent }));
         let priority = self.random.between(1, 4);
         steps.push(Step::by(urgent, Call::ChgPri { task: 0, priority }));
         let timeout = self.wait_timeout();
@@ -205,7 +207,7 @@ impl Generator<'_> {
     fn lowered_sender(&mut self) -> Option<Vec<Step>> {
         let mutex = *self.free_inheritance().first()?;
         let tasks = self.shuffled_ready();
-        let buffer = self.quiet_ordered_buffer()?;
+        let buffer = self.unawaited_buffer_by_priority()?;
         if tasks.len() < 4 {
             return None;
         }
@@ -213,18 +215,19 @@ impl Generator<'_> {
         let mut steps = Vec::new();
         self.fill_up(&mut steps, buffer)?;
         let lock = |timeout| Call::LocMtx { mutex: i32::from(mutex.get()), timeout };
-        let long = i32::from(self.kernel.buffer(buffer)?.maxmsz);
+        let longest = i32::from(self.kernel.buffer(buffer)?.maxmsz);
         steps.push(Step::by(raised, lock(-1)));
-        let call = self.snd_mbf(buffer, long, -1);
+        let call = self.snd_mbf(buffer, longest, -1);
         steps.push(Step::by(raised, call));
         steps.push(Step::by(waiter, Call::ChgPri { task: 0, priority: 1 }));
         let timeout = self.random.between(2, 4);
         steps.push(Step::by(waiter, lock(timeout)));
         let call = self.snd_mbf(buffer, 4, -1);
         steps.push(Step::by(next, call));
-        let (slow, fast) = (self.random.between(9, 16), self.random.between(2, 8));
-        steps.push(Step::anyone(Call::ChgPri { task: number(next), priority: fast }));
-        steps.push(Step::anyone(Call::ChgPri { task: number(raised), priority: slow }));
+        let (less_urgent, more_urgent) =
+            (self.random.between(9, LEAST_URGENT), self.random.between(2, 8));
+        steps.push(Step::anyone(Call::ChgPri { task: number(next), priority: more_urgent }));
+        steps.push(Step::anyone(Call::ChgPri { task: number(raised), priority: less_urgent }));
         // The waiter goes by its timeout, its end or the mutex's.
         match self.random.below(4) {
             0 => {
@@ -237,7 +240,7 @@ impl Generator<'_> {
             }
             2 => {
                 let task = number(waiter);
-                steps.push(Step::by(last, Call::ChgPri { task, priority: 16 }));
+                steps.push(Step::by(last, Call::ChgPri { task, priority: LEAST_URGENT }));
             }
             _ => steps.extend((0..timeout).map(|_| Step::anyone(Call::Tick))),
         }
@@ -246,7 +249,7 @@ impl Generator<'_> {
 
     /// At two buffers the first senders time out in the same tick; the next ones' messages fit.
     fn two_buffers_at_once(&mut self) -> Option<Vec<Step>> {
-        let buffers = self.quiet_buffers();
+        let buffers = self.unawaited_buffers();
         let tasks = self.shuffled_ready();
         if buffers.len() < 2 || tasks.len() < 5 {
             return None;
@@ -255,8 +258,8 @@ impl Generator<'_> {
         let timeout = self.random.between(1, 3);
         for (&buffer, &task) in buffers[..2].iter().zip(&tasks) {
             self.fill_up(&mut steps, buffer)?;
-            let long = i32::from(self.kernel.buffer(buffer)?.maxmsz);
-            let call = self.snd_mbf(buffer, long, timeout);
+            let longest = i32::from(self.kernel.buffer(buffer)?.maxmsz);
+            let call = self.snd_mbf(buffer, longest, timeout);
             steps.push(Step::by(task, call));
             // The most urgent, so that the next one stands behind in either order.
             steps.push(Step::anyone(Call::ChgPri { task: number(task), priority: 1 }));
@@ -285,8 +288,8 @@ impl Generator<'_> {
         });
         let mut empty = self.buffers();
         empty.retain(|b| self.kernel.next_message(i32::from(b.get())).is_empty());
-        let buffer = i32::from(self.random.maybe(&empty)?.get());
-        let chosen = self.random.maybe(&mutexes)?;
+        let buffer = i32::from(self.random.pick_if_any(&empty)?.get());
+        let chosen = self.random.pick_if_any(&mutexes)?;
         let ceiling = i32::from(self.kernel.mutex(chosen)?.ceiling);
         let mutex = i32::from(chosen.get());
         let (first, second) = (self.random.between(4, 9), self.wait_timeout());

@@ -38,11 +38,21 @@ impl Random {
     }
 
     /// One of a list, if it has any.
-    pub fn maybe<T: Copy>(&mut self, list: &[T]) -> Option<T> {
+    pub fn pick_if_any<T: Copy>(&mut self, list: &[T]) -> Option<T> {
         if list.is_empty() {
             None
         } else {
             Some(self.pick(list))
         }
+    }
+
+    /// Any of the numbers that fulfil the condition, if one does.
+    pub fn any_of(
+        &mut self,
+        numbers: std::ops::Range<usize>,
+        wanted: impl Fn(usize) -> bool,
+    ) -> Option<usize> {
+        let numbers: Vec<usize> = numbers.filter(|&number| wanted(number)).collect();
+        self.pick_if_any(&numbers)
     }
 }

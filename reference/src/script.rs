@@ -6,7 +6,7 @@ use crate::outcome::{Answer, Outcome};
 use crate::record::{self, Call};
 
 const TOO_LONG: u8 = 0x8D;
-const CUT: u8 = 0x8E;
+const STOPPED: u8 = 0x8E;
 
 /// Runs a script on the fresh kernel and gives its log.
 pub fn run_script(script: &[u8]) -> Vec<u8> {
@@ -20,7 +20,7 @@ pub fn run_script(script: &[u8]) -> Vec<u8> {
     let mut at = 0;
     while at < script.len() {
         let Some((call, length)) = record::read(&script[at..]) else {
-            log.push(CUT);
+            log.push(STOPPED);
             log.extend_from_slice(&(at as u32).to_le_bytes());
             break;
         };

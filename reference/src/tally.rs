@@ -1,4 +1,4 @@
-//! How often each answer, ended wait and refusal occurred, so that thin spots show.
+//! How often each answer, ended wait and refusal occurred, so that what is missing shows.
 
 use std::collections::BTreeMap;
 use std::fmt::Write;

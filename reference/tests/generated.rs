@@ -3,7 +3,8 @@
 use std::io::Write;
 use std::process::{Command, Stdio};
 
-use reference::generator::generate;
+use reference::generator::{generate, RECORDS};
+use reference::limits::SCRIPT;
 use reference::run_script;
 use reference::selfcheck::self_check;
 use reference::tally::Tally;
@@ -12,11 +13,11 @@ use reference::tally::Tally;
 fn generated_scripts_check_out() {
     let mut tally = Tally::default();
     for index in 0..1_500 {
-        let script = generate(2024, index, 120, &mut tally);
+        let script = generate(2024, index, RECORDS, &mut tally);
         self_check(&script).unwrap_or_else(|what| panic!("script {index}: {what}"));
     }
     let report = tally.report();
-    assert!(report.ends_with("refusals that did not occur\n"), "thin spots:\n{report}");
+    assert!(report.ends_with("refusals that did not occur\n"), "{report}");
 }
 
 #[test]
@@ -62,7 +63,7 @@ fn the_binary_runs_scripts() {
         assert_eq!(run_binary(&[], &script), run_script(&script));
     }
     assert_eq!(run_binary(&[], &[]), []);
-    assert_eq!(run_binary(&[], &[0x40; 16_385]), [0x8D]);
+    assert_eq!(run_binary(&[], &[0x40; SCRIPT + 1]), [0x8D]);
     assert_eq!(run_binary(&[], &[0x40; 100_000]), [0x8D]);
 }
 

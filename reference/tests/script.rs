@@ -26,15 +26,18 @@ fn empty_script() {
 
 #[test]
 fn longest_script_and_one_byte_more() {
-    let log = run_script(&[0x40; 16_384]);
-    assert_eq!(log.len(), 16_384 * TICK_LOG.len());
+    let log = run_script(&[0x40; SCRIPT]);
+    assert_eq!(log.len(), SCRIPT * TICK_LOG.len());
     assert!(log.chunks(TICK_LOG.len()).all(|record| record == TICK_LOG));
-    assert_eq!(run_script(&[0x40; 16_385]), [0x8D]);
-    assert_eq!(run_script(&[0xFF; 16_385]), [0x8D]);
+    assert_eq!(run_script(&[0x40; SCRIPT + 1]), [0x8D]);
+    assert_eq!(run_script(&[0xFF; SCRIPT + 1]), [0x8D]);
     // The last byte of the longest script is a cut record.
-    let mut script = [0x40; 16_384];
-    script[16_383] = 0x01;
-    assert_eq!(run_script(&script)[16_383 * TICK_LOG.len()..], [0x8E, 0xFF, 0x3F, 0, 0]);
+    let last = SCRIPT - 1;
+    let mut script = [0x40; SCRIPT];
+    script[last] = 0x01;
+    let log = run_script(&script);
+    assert_eq!(log[last * TICK_LOG.len()], 0x8E);
+    assert_eq!(log[last * TICK_LOG.len() + 1..], (last as u32).to_le_bytes());
 }
 
 #[test]

@@ -1,4 +1,4 @@
-//! The five shortcuts a good student takes, each as a case that the shortcut fails.
+//! 01's shortcuts a good student takes, each as a case that the shortcut fails.
 
 mod common;
 
@@ -9,71 +9,72 @@ use reference::Call;
 /// Testing only msgsz > maxmsz lets 0 and negative lengths through.
 #[test]
 fn only_the_upper_bound_of_msgsz() {
-    let mut lab = Lab::new();
-    lab.code(cre_mbf(0, 64, 8));
+    let mut test = TestKernel::new();
+    test.code(cre_mbf(0, 64, 8));
     for msgsz in [0, -1, -32, i32::MIN] {
-        assert_eq!(lab.code(snd_mbf(1, msgsz, 0)), E_PAR);
+        assert_eq!(test.code(snd_mbf(1, msgsz, 0)), E_PAR);
         // From the call alone, so it comes before the buffer's number.
-        assert_eq!(lab.code(snd_mbf(9, msgsz, 0)), E_PAR);
+        assert_eq!(test.code(snd_mbf(9, msgsz, 0)), E_PAR);
     }
-    assert_eq!(lab.code(snd_mbf(1, 9, 0)), E_PAR);
-    assert_eq!(lab.code(snd_mbf(9, 9, 0)), E_ID);
-    lab.ok(snd_mbf(1, 8, 0));
+    assert_eq!(test.code(snd_mbf(1, 9, 0)), E_PAR);
+    assert_eq!(test.code(snd_mbf(9, 9, 0)), E_ID);
+    test.ok(snd_mbf(1, 8, 0));
     // Also towards a waiting receiver.
-    let receiver = lab.start(1);
-    assert_eq!(lab.running(), receiver);
-    assert_eq!(lab.code(rcv_mbf(1, 0)), 8);
-    lab.waits(rcv_mbf(1, -1));
-    assert_eq!(lab.code(snd_mbf(1, 0, 0)), E_PAR);
+    let receiver = test.start(1);
+    assert_eq!(test.running(), receiver);
+    assert_eq!(test.code(rcv_mbf(1, 0)), 8);
+    test.waits(rcv_mbf(1, -1));
+    assert_eq!(test.code(snd_mbf(1, 0, 0)), E_PAR);
 }
 
 /// A chain of five, task by task less urgent, with one urgent waiter at its end.
-fn long_chain() -> (Lab, Vec<i32>, i32) {
-    let mut lab = Lab::new();
+fn long_chain() -> (TestKernel, Vec<i32>, i32) {
+    let mut test = TestKernel::new();
     let members: Vec<i32> = (0..5)
         .map(|i| {
-            assert_eq!(lab.code(cre_mtx(2, 0)), i + 1);
-            lab.start(16 - i)
+            assert_eq!(test.code(cre_mtx(2, 0)), i + 1);
+            test.start(LEAST_URGENT - i)
         })
         .collect();
     for (i, &task) in members.iter().enumerate() {
         let mutex = i as i32 + 1;
-        let base = i32::from(lab.task(task).base);
-        lab.ok(chg_pri(task, 2));
-        lab.turn_to(task);
-        lab.ok(loc_mtx(mutex, -1));
+        let base = i32::from(test.task(task).base);
+        test.ok(chg_pri(task, 2));
+        test.rotate_to(task);
+        test.ok(loc_mtx(mutex, -1));
         if i > 0 {
-            lab.waits(loc_mtx(mutex - 1, -1));
+            test.waits(loc_mtx(mutex - 1, -1));
         }
-        lab.ok(chg_pri(task, base));
+        test.ok(chg_pri(task, base));
     }
-    let urgent = lab.start(1);
-    lab.waits(loc_mtx(5, 4));
-    assert!(members.iter().all(|&task| lab.current(task) == 1));
-    (lab, members, urgent)
+    let urgent = test.start(1);
+    test.waits(loc_mtx(5, 4));
+    assert!(members.iter().all(|&task| test.current(task) == 1));
+    (test, members, urgent)
 }
 
 /// Lowering only the first holder leaves the rest of the chain raised.
 #[test]
 fn lowering_only_the_first_holder() {
-    let bases = [12, 12, 12, 12, 12];
+    // Without the urgent waiter the most urgent member of the chain counts for all.
+    let bases = [PRIORITIES - 4; 5];
     // The end of the raise, in each of its ways.
     for way in 0..4 {
-        let (mut lab, members, urgent) = long_chain();
+        let (mut test, members, urgent) = long_chain();
         match way {
             0 => {
-                lab.quiet_ticks(3);
-                lab.ok(Call::Tick);
-                assert_eq!(lab.ended(), [(urgent, E_TMOUT)]);
+                test.uneventful_ticks(3);
+                test.ok(Call::Tick);
+                assert_eq!(test.ended(), [(urgent, E_TMOUT)]);
             }
-            1 => lab.ok(ter_tsk(urgent)),
-            2 => lab.ok(chg_pri(urgent, 13)),
+            1 => test.ok(ter_tsk(urgent)),
+            2 => test.ok(chg_pri(urgent, LEAST_URGENT - 3)),
             _ => {
-                lab.ok(del_mtx(5));
-                assert_eq!(lab.ended(), [(urgent, E_DLT)]);
+                test.ok(del_mtx(5));
+                assert_eq!(test.ended(), [(urgent, E_DLT)]);
             }
         }
-        let current: Vec<u8> = members.iter().map(|&task| lab.current(task)).collect();
+        let current: Vec<u8> = members.iter().map(|&task| test.current(task)).collect();
         assert_eq!(current, bases, "way {way}");
     }
 }
@@ -82,100 +83,100 @@ fn lowering_only_the_first_holder() {
 #[test]
 fn lowering_by_kept_priorities() {
     for way in 0..3 {
-        let mut lab = Lab::new();
+        let mut test = TestKernel::new();
         let bases = [14, 10, 12];
         let members: Vec<i32> = (0..3)
             .map(|i| {
-                assert_eq!(lab.code(cre_mtx(2, 0)), i + 1);
-                lab.start(bases[i as usize])
+                assert_eq!(test.code(cre_mtx(2, 0)), i + 1);
+                test.start(bases[i as usize])
             })
             .collect();
         for (i, &task) in members.iter().enumerate() {
-            lab.as_task(task, |lab| lab.ok(loc_mtx(i as i32 + 1, -1)));
+            test.as_task(task, |test| test.ok(loc_mtx(i as i32 + 1, -1)));
         }
         for (i, &task) in members.iter().enumerate() {
-            lab.ok(chg_pri(task, 1));
-            lab.turn_to(task);
-            lab.waits(loc_mtx((i as i32 + 1) % 3 + 1, -1));
+            test.ok(chg_pri(task, 1));
+            test.rotate_to(task);
+            test.waits(loc_mtx((i as i32 + 1) % 3 + 1, -1));
         }
-        assert!(members.iter().all(|&task| lab.current(task) == 1));
+        assert!(members.iter().all(|&task| test.current(task) == 1));
         for (i, &task) in members.iter().enumerate() {
-            lab.ok(chg_pri(task, bases[i]));
+            test.ok(chg_pri(task, bases[i]));
         }
         // The most urgent base of the circle, not the 1 that each saw in the other.
-        assert!(members.iter().all(|&task| lab.current(task) == 10));
-        let urgent = lab.start(2);
-        lab.waits(loc_mtx(2, 1));
-        assert!(members.iter().all(|&task| lab.current(task) == 2));
+        assert!(members.iter().all(|&task| test.current(task) == 10));
+        let urgent = test.start(2);
+        test.waits(loc_mtx(2, 1));
+        assert!(members.iter().all(|&task| test.current(task) == 2));
         match way {
-            0 => lab.ok(Call::Tick),
-            1 => lab.ok(ter_tsk(urgent)),
-            _ => lab.ok(chg_pri(urgent, 11)),
+            0 => test.ok(Call::Tick),
+            1 => test.ok(ter_tsk(urgent)),
+            _ => test.ok(chg_pri(urgent, 11)),
         }
-        assert!(members.iter().all(|&task| lab.current(task) == 10), "way {way}");
+        assert!(members.iter().all(|&task| test.current(task) == 10), "way {way}");
         // One member leaves by its end: the third (12) still waits for the first (14).
-        lab.ok(ter_tsk(members[1]));
-        assert_eq!((lab.current(members[0]), lab.current(members[2])), (12, 12), "way {way}");
+        test.ok(ter_tsk(members[1]));
+        assert_eq!((test.current(members[0]), test.current(members[2])), (12, 12), "way {way}");
     }
 }
 
 /// A sender that inheritance moves to the front may fit now.
 #[test]
 fn a_raised_sender_may_fit() {
-    let mut lab = Lab::new();
-    lab.code(cre_mtx(2, 0));
-    lab.code(cre_mbf(1, 20, 32));
-    lab.ok(snd_mbf(1, 5, -1)); // 12 of 20: 8 are free
-    let low = lab.start(12);
-    let high = lab.start(6);
-    assert_eq!(lab.running(), high);
-    lab.waits(snd_mbf(1, 32, -1));
-    lab.ok(chg_pri(low, 7));
-    assert_eq!(lab.running(), low);
-    lab.ok(loc_mtx(1, -1));
-    lab.waits(snd_mbf(1, 4, -1));
-    lab.ok(chg_pri(low, 12));
-    assert_eq!(lab.ended(), []);
-    let urgent = lab.start(3);
+    let mut test = TestKernel::new();
+    test.code(cre_mtx(2, 0));
+    test.code(cre_mbf(1, 20, 32));
+    test.ok(snd_mbf(1, 5, -1)); // 12 of 20: 8 are free
+    let low = test.start(12);
+    let high = test.start(6);
+    assert_eq!(test.running(), high);
+    test.waits(snd_mbf(1, 32, -1));
+    test.ok(chg_pri(low, 7));
+    assert_eq!(test.running(), low);
+    test.ok(loc_mtx(1, -1));
+    test.waits(snd_mbf(1, 4, -1));
+    test.ok(chg_pri(low, 12));
+    assert_eq!(test.ended(), []);
+    let urgent = test.start(3);
     // Locking raises the low sender to 3, ahead of the high one; its 8 bytes fit.
-    lab.waits(loc_mtx(1, -1));
-    assert_eq!(lab.ended(), [(low, E_OK)]);
-    assert_eq!(lab.current(low), 3);
-    assert_eq!(lab.used(1), 20);
-    assert_eq!(lab.running(), low);
-    assert_eq!(lab.current(urgent), 3);
+    test.waits(loc_mtx(1, -1));
+    assert_eq!(test.ended(), [(low, E_OK)]);
+    assert_eq!(test.current(low), 3);
+    assert_eq!(test.used(1), 20);
+    assert_eq!(test.running(), low);
+    assert_eq!(test.current(urgent), 3);
 }
 
 /// The same when the first sender falls back, in a tick.
 #[test]
 fn a_lowered_sender_lets_the_next_one_fit() {
-    let mut lab = Lab::new();
-    lab.code(cre_mtx(2, 0));
-    lab.code(cre_mbf(1, 20, 32));
-    lab.ok(snd_mbf(1, 5, -1));
-    let big = lab.start(7);
-    lab.ok(loc_mtx(1, -1));
-    lab.waits(snd_mbf(1, 32, -1));
-    let small = lab.start(6);
-    lab.ok(chg_pri(big, 12));
-    lab.ok(chg_pri(small, 5));
-    assert_eq!(lab.running(), small);
-    let urgent = lab.start(2);
-    lab.waits(loc_mtx(1, 2));
-    assert_eq!(lab.current(big), 2);
-    lab.waits(snd_mbf(1, 4, -1));
-    assert_eq!(lab.used(1), 12);
-    lab.quiet_ticks(1);
-    lab.ok(Call::Tick);
+    let mut test = TestKernel::new();
+    test.code(cre_mtx(2, 0));
+    test.code(cre_mbf(1, 20, 32));
+    test.ok(snd_mbf(1, 5, -1));
+    let big = test.start(7);
+    test.ok(loc_mtx(1, -1));
+    test.waits(snd_mbf(1, 32, -1));
+    let small = test.start(6);
+    test.ok(chg_pri(big, 12));
+    test.ok(chg_pri(small, 5));
+    assert_eq!(test.running(), small);
+    let urgent = test.start(2);
+    test.waits(loc_mtx(1, 2));
+    assert_eq!(test.current(big), 2);
+    test.waits(snd_mbf(1, 4, -1));
+    assert_eq!(test.used(1), 12);
+    test.uneventful_ticks(1);
+    test.ok(Call::Tick);
     // First the timeout, then the look at the buffers.
-    assert_eq!(lab.ended(), [(urgent, E_TMOUT), (small, E_OK)]);
-    assert_eq!(lab.used(1), 20);
+    assert_eq!(test.ended(), [(urgent, E_TMOUT), (small, E_OK)]);
+    assert_eq!(test.used(1), 20);
 }
 
 /// Multiplying before testing overflows, or lets a wrapped product through.
 #[test]
 fn multiplying_before_testing() {
-    let mut lab = Lab::new();
+    let mut test = TestKernel::new();
     for (count, size) in [
         (65_536, 65_536),     // 0 in 32 bits
         (i32::MIN, 2),        // 0 in 32 bits
@@ -187,16 +188,17 @@ fn multiplying_before_testing() {
         (1, 0),
         (4096, 1),
     ] {
-        assert_eq!(lab.code(cre_mpf(0, count, size)), E_PAR, "{count} {size}");
-        assert_eq!(lab.code(cre_mpf(0, size, count)), E_PAR, "{size} {count}");
+        assert_eq!(test.code(cre_mpf(0, count, size)), E_PAR, "{count} {size}");
+        assert_eq!(test.code(cre_mpf(0, size, count)), E_PAR, "{size} {count}");
     }
-    assert_eq!(lab.code(cre_mpf(0, 17, 1)), E_PAR);
-    assert_eq!(lab.code(cre_mpf(0, 16, 255)), 1); // 4,080
-    assert_eq!(lab.code(cre_mpf(0, 1, 17)), E_NOMEM);
-    assert_eq!(lab.code(cre_mpf(0, 1, 16)), 2); // 4,096
-    assert_eq!(lab.code(cre_mpf(0, 1, 1)), E_NOMEM);
-    lab.ok(del_mpf(1));
-    assert_eq!(lab.code(cre_mpf(0, 16, 256)), E_NOMEM);
-    lab.ok(del_mpf(2));
-    assert_eq!(lab.code(cre_mpf(0, 16, 256)), 1);
+    assert_eq!(test.code(cre_mpf(0, MOST_BLOCKS + 1, 1)), E_PAR);
+    assert_eq!(test.code(cre_mpf(0, MOST_BLOCKS, 255)), 1);
+    let left = POOL_BYTES as i32 - MOST_BLOCKS * 255;
+    assert_eq!(test.code(cre_mpf(0, 1, left + 1)), E_NOMEM);
+    assert_eq!(test.code(cre_mpf(0, 1, left)), 2);
+    assert_eq!(test.code(cre_mpf(0, 1, 1)), E_NOMEM);
+    test.ok(del_mpf(1));
+    assert_eq!(test.code(cre_mpf(0, MOST_BLOCKS, 256)), E_NOMEM);
+    test.ok(del_mpf(2));
+    assert_eq!(test.code(cre_mpf(0, MOST_BLOCKS, 256)), 1);
 }

@@ -6,19 +6,20 @@ use std::process::{Command, Stdio};
 use reference::boundary::BOUNDARIES;
 use reference::check;
 use reference::clauses::{failing, Clause, CLAUSES};
+use reference::lent_state::State;
 use reference::limits::*;
 use reference::random::Random;
-use reference::states::{busy, state, state_at_boundary, state_failing, Kind, State};
+use reference::states::{busy, state, state_at_boundary, state_failing, Kind};
 use reference::words::*;
 
-/// States that each clause is tried on.
-const EACH: u64 = 24;
+/// States that each clause and each boundary is tried on.
+const STATES_EACH: u64 = 24;
 
 #[test]
 fn every_clause_fails_alone() {
     for clause in CLAUSES {
         let mut states: Vec<State> = Vec::new();
-        for index in 0..EACH {
+        for index in 0..STATES_EACH {
             let state = state_failing(clause, 5, index);
             let failing = state.failing();
             assert!(clause.fails_alone(&failing), "{clause:?}: {failing:?}");
@@ -28,14 +29,14 @@ fn every_clause_fails_alone() {
             states.push(state);
         }
         states.dedup();
-        assert!(states.len() as u64 == EACH, "{clause:?}: the same state twice");
+        assert!(states.len() as u64 == STATES_EACH, "{clause:?}: the same state twice");
     }
 }
 
 #[test]
 fn valid_at_every_boundary() {
     for boundary in BOUNDARIES {
-        for index in 0..EACH {
+        for index in 0..STATES_EACH {
             let state = state_at_boundary(boundary, 5, index);
             assert_eq!(state.failing(), [], "{boundary:?}");
             assert!(state.is_valid(), "{boundary:?}");
@@ -56,21 +57,21 @@ fn every_field_is_altered() {
     let altered = |clause: Clause| -> usize {
         let words = (0..400).map(|index| {
             let state = state_failing(clause, 8, index);
-            let entries = [at::PLACE, at::OBJECT, at::ARGUMENT, at::INITIAL, at::BASE, at::CURRENT]
+            let lists = [&TASK_LISTS[..], &MUTEX_LISTS, &BUFFER_LISTS, &POOL_LISTS].concat();
+            let mut entries = lists
                 .into_iter()
-                .chain([at::LEFT, at::MUTEX_EXISTS, at::MUTEX_ATTRIBUTE, at::CEILING, at::HOLDER])
-                .chain([at::BUFFER_EXISTS, at::BUFFER_ATTRIBUTE, at::BUFSZ, at::MAXMSZ, at::USED])
-                .chain([at::POOL_EXISTS, at::POOL_ATTRIBUTE, at::COUNT, at::SIZE])
                 .chain(at::FLAGS..at::FLAGS + PER_BLOCK)
                 .chain((1..PER_POOL).map(|p| at::FLAGS + p * PER_BLOCK));
-            entries.into_iter().find(|&at| state.words[at] != 0)
+            entries.find(|&at| state.words[at] != 0)
         });
         let mut found: Vec<usize> = words.flatten().collect();
         found.sort_unstable();
         found.dedup();
         found.len()
     };
-    assert_eq!(zeros.map(altered), [7, 4, 5, 4 + PER_BLOCK, POOLS]);
+    let [tasks, mutexes] = [TASK_LISTS.len(), MUTEX_LISTS.len()];
+    let [buffers, pools] = [BUFFER_LISTS.len(), POOL_LISTS.len() + PER_BLOCK];
+    assert_eq!(zeros.map(altered), [tasks, mutexes, buffers, pools, POOLS]);
 }
 
 #[test]
@@ -92,13 +93,13 @@ fn clauses_agree_with_the_check() {
     assert!(counts[&(Kind::Valid, true)] > 1_500);
     assert!(counts[&(Kind::Changed, true)] > 1_000, "{counts:?}");
     assert!(counts[&(Kind::Changed, false)] > 5_000);
-    assert!(counts[&(Kind::Noise, false)] > 500);
+    assert!(counts[&(Kind::RandomWords, false)] > 500);
     assert!(!counts.contains_key(&(Kind::Valid, false)));
 }
 
-/// Any words, bytes and lengths: nothing faults.
+/// Any words, bytes and lengths: nothing panics.
 #[test]
-fn clauses_of_noise() {
+fn clauses_of_random_words() {
     let mut random = Random::new(12);
     for _ in 0..3_000 {
         let lengths = [WORDS, STORE, OUTBOX].map(|right| match random.below(4) {
@@ -112,8 +113,8 @@ fn clauses_of_noise() {
     }
 }
 
-/// What there is to see in a valid state, by name.
-fn sights(state: &State) -> Vec<&'static str> {
+/// What a busy state can have, by name, and whether this one has it.
+fn features(state: &State) -> Vec<(&'static str, bool)> {
     let word = |list: usize, number: usize| state.word(list, number);
     let tasks = |wanted: &dyn Fn(usize) -> bool| (1..PER_TASK).any(wanted);
     let at = |place: u32| tasks(&|t| word(at::PLACE, t) == place);
@@ -128,7 +129,7 @@ fn sights(state: &State) -> Vec<&'static str> {
         let flags = &state.words[at::FLAGS + p * PER_BLOCK..][..PER_BLOCK];
         word(at::POOL_EXISTS, p) == 1 && flags.iter().sum::<u32>() == word(at::COUNT, p)
     });
-    let sees = [
+    vec![
         ("absent", at(ABSENT)),
         ("dormant", at(DORMANT)),
         ("ready", at(READY)),
@@ -156,8 +157,7 @@ fn sights(state: &State) -> Vec<&'static str> {
         ("timeout", tasks(&|t| waits(t) && word(at::LEFT, t) != ENDLESS)),
         ("endless", tasks(&|t| waits(t) && word(at::LEFT, t) == ENDLESS)),
         ("other base", tasks(&|t| word(at::BASE, t) != word(at::INITIAL, t))),
-    ];
-    sees.into_iter().filter(|sight| sight.1).map(|sight| sight.0).collect()
+    ]
 }
 
 fn senders(state: &State, b: usize) -> usize {
@@ -173,11 +173,10 @@ fn valid_states_are_busy() {
     for _ in 0..2_000 {
         let state = busy(&mut random);
         assert!(state.is_valid());
-        for sight in sights(&state) {
-            *seen.entry(sight).or_default() += 1;
+        for (feature, has) in features(&state) {
+            *seen.entry(feature).or_default() += usize::from(has);
         }
     }
-    assert_eq!(seen.len(), 21, "{seen:?}");
     assert!(seen.values().all(|&count| count >= 20), "{seen:?}");
 }
 

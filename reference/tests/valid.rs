@@ -11,6 +11,10 @@ use reference::tally::Tally;
 use reference::words::*;
 use reference::{check, run_record, Call, Kernel, Outcome};
 
+/// The last task and the least urgent priority, as words.
+const LAST: u32 = LAST_TASK as u32;
+const LEAST: u32 = LEAST_URGENT as u32;
+
 /// A lent state that can be broken.
 #[derive(Clone)]
 struct Lent {
@@ -60,33 +64,33 @@ impl Lent {
 /// Buffers: 1 by priority, 24 bytes, holds messages of 1 and 4 bytes; 2 is empty. Pools: 1 has
 /// both blocks out, 2 has one of three out.
 fn sample() -> Lent {
-    let mut lab = Lab::new();
-    lab.code(cre_mtx(2, 0));
-    lab.code(cre_mtx(3, 6));
-    lab.code(cre_mtx(0, 0));
-    lab.code(cre_mbf(1, 24, 20));
-    lab.code(cre_mbf(0, 64, 8));
-    lab.code(cre_mpf(1, 2, 256));
-    lab.code(cre_mpf(512, 3, 100));
-    lab.ok(get_mpf(1, 0));
-    lab.ok(get_mpf(1, 0));
-    lab.ok(get_mpf(2, 0));
-    lab.ok(snd_mbf(1, 1, 0));
-    lab.ok(snd_mbf(1, 4, 0));
-    lab.start(5);
-    lab.waits(snd_mbf(1, 20, -1));
-    lab.ok(loc_mtx(1, 0));
-    lab.ok(loc_mtx(2, 0));
-    lab.start(4);
-    lab.waits(loc_mtx(1, -1));
-    lab.start(3);
-    lab.waits(get_mpf(1, 1));
-    lab.start(7);
-    lab.ok(chg_pri(5, 2));
-    lab.waits(rcv_mbf(2, 9));
-    lab.ok(chg_pri(5, 7));
-    lab.code(cre_tsk(9));
-    Lent::of(&lab.kernel)
+    let mut test = TestKernel::new();
+    test.code(cre_mtx(2, 0));
+    test.code(cre_mtx(3, 6));
+    test.code(cre_mtx(0, 0));
+    test.code(cre_mbf(1, 24, 20));
+    test.code(cre_mbf(0, 64, 8));
+    test.code(cre_mpf(1, 2, 256));
+    test.code(cre_mpf(512, 3, 100));
+    test.ok(get_mpf(1, 0));
+    test.ok(get_mpf(1, 0));
+    test.ok(get_mpf(2, 0));
+    test.ok(snd_mbf(1, 1, 0));
+    test.ok(snd_mbf(1, 4, 0));
+    test.start(5);
+    test.waits(snd_mbf(1, 20, -1));
+    test.ok(loc_mtx(1, 0));
+    test.ok(loc_mtx(2, 0));
+    test.start(4);
+    test.waits(loc_mtx(1, -1));
+    test.start(3);
+    test.waits(get_mpf(1, 1));
+    test.start(7);
+    test.ok(chg_pri(5, 2));
+    test.waits(rcv_mbf(2, 9));
+    test.ok(chg_pri(5, 7));
+    test.code(cre_tsk(9));
+    Lent::of(&test.kernel)
 }
 
 #[test]
@@ -95,9 +99,12 @@ fn samples_are_valid() {
     assert!(sample().valid());
     // No task at all is valid too.
     assert!(check(&[0; WORDS], &[0; STORE], &[0; OUTBOX]));
-    // Seven lists and the arrivals for tasks, then four, five and four lists and the flags.
-    let words = 7 * (TASKS + 1) + TASKS + 4 * (MUTEXES + 1) + 5 * (BUFFERS + 1);
-    assert_eq!(WORDS, words + 4 * (POOLS + 1) + (POOLS + 1) * (BLOCKS + 1));
+    // The lists and the arrivals of tasks, then the lists of mutexes, buffers and pools, the flags.
+    let tasks = TASK_LISTS.len() * (TASKS + 1) + TASKS;
+    let mutexes = MUTEX_LISTS.len() * (MUTEXES + 1);
+    let buffers = BUFFER_LISTS.len() * (BUFFERS + 1);
+    let pools = (POOL_LISTS.len() + BLOCKS + 1) * (POOLS + 1);
+    assert_eq!(WORDS, tasks + mutexes + buffers + pools);
 }
 
 #[test]
@@ -117,28 +124,7 @@ fn lengths() {
 #[test]
 fn entries_for_none_are_zero() {
     let sample = sample();
-    let lists = [
-        at::PLACE,
-        at::OBJECT,
-        at::ARGUMENT,
-        at::INITIAL,
-        at::BASE,
-        at::CURRENT,
-        at::LEFT,
-        at::MUTEX_EXISTS,
-        at::MUTEX_ATTRIBUTE,
-        at::CEILING,
-        at::HOLDER,
-        at::BUFFER_EXISTS,
-        at::BUFFER_ATTRIBUTE,
-        at::BUFSZ,
-        at::MAXMSZ,
-        at::USED,
-        at::POOL_EXISTS,
-        at::POOL_ATTRIBUTE,
-        at::COUNT,
-        at::SIZE,
-    ];
+    let lists = [&TASK_LISTS[..], &MUTEX_LISTS, &BUFFER_LISTS, &POOL_LISTS].concat();
     for at in lists {
         for word in [1, 2, u32::MAX] {
             assert!(!sample.with(&[(at, word)]));
@@ -182,9 +168,9 @@ fn ranges_of_tasks() {
     let sample = sample();
     for (at, good, bad) in [
         // A dormant task: its current priority is its base.
-        (at::INITIAL + 6, vec![1, 16], vec![0, 17, 257, u32::MAX]),
-        (at::BASE + 6, vec![], vec![0, 8, 10, 17]),
-        (at::CURRENT + 6, vec![], vec![0, 8, 10, 17]),
+        (at::INITIAL + 6, vec![1, LEAST], vec![0, LEAST + 1, 257, u32::MAX]),
+        (at::BASE + 6, vec![], vec![0, 8, 10, LEAST + 1]),
+        (at::CURRENT + 6, vec![], vec![0, 8, 10, LEAST + 1]),
         (at::OBJECT + 6, vec![], vec![1]),
         (at::ARGUMENT + 6, vec![], vec![1]),
         (at::LEFT + 6, vec![], vec![1, u32::MAX]),
@@ -216,9 +202,9 @@ fn ranges_of_objects() {
     for (at, good, bad) in [
         (at::MUTEX_EXISTS + 3, vec![0], vec![2, u32::MAX]),
         (at::MUTEX_ATTRIBUTE + 3, vec![1, 2], vec![3, 4, 256, u32::MAX]),
-        (at::CEILING + 3, vec![], vec![1, 16]),
-        (at::CEILING + 2, vec![4, 5, 7, 8], vec![0, 1, 2, 3, 9, 16, 17, 262]),
-        (at::HOLDER + 3, vec![1, 2, 3, 4, 5], vec![6, 7, 16, 17, u32::MAX]),
+        (at::CEILING + 3, vec![], vec![1, LEAST]),
+        (at::CEILING + 2, vec![4, 5, 7, 8], vec![0, 1, 2, 3, 9, LEAST, LEAST + 1, 262]),
+        (at::HOLDER + 3, vec![1, 2, 3, 4, 5], vec![6, 7, LAST, LAST + 1, u32::MAX]),
         (at::BUFFER_EXISTS + 2, vec![], vec![0, 2]),
         (at::BUFFER_ATTRIBUTE + 2, vec![1], vec![2, u32::MAX]),
         (at::BUFSZ + 2, vec![0, 256], vec![257, u32::MAX]),
@@ -228,7 +214,7 @@ fn ranges_of_objects() {
         (at::BUFSZ + 1, vec![16, 39], vec![15, 40, 256]),
         (at::POOL_EXISTS + 2, vec![], vec![0, 2]),
         (at::POOL_ATTRIBUTE + 2, vec![0, 1, 256, 257, 513, 768, 769], vec![2, 255, 1024, u32::MAX]),
-        (at::COUNT + 2, vec![1, 2, 16], vec![0, 17, 1 << 16, u32::MAX]),
+        (at::COUNT + 2, vec![1, 2, BLOCKS as u32], vec![0, BLOCKS as u32 + 1, 1 << 16, u32::MAX]),
         (at::SIZE + 2, vec![1, 256], vec![0, 257, 1 << 31, u32::MAX]),
     ] {
         for word in good {
@@ -244,16 +230,18 @@ fn ranges_of_objects() {
 #[test]
 fn pool_bytes() {
     let sample = sample();
-    let third = [(at::POOL_EXISTS + 3, 1), (at::COUNT + 3, 16), (at::SIZE + 3, 204)];
-    // 512 + 300 + 3,264 = 4,076.
+    // The first two take 512 and 300; the third leaves 20 or a few more.
+    let (count, left) = (BLOCKS as u32, POOL_BYTES as u32 - 512 - 300);
+    let size = (left - 20) / count;
+    let third = [(at::POOL_EXISTS + 3, 1), (at::COUNT + 3, count), (at::SIZE + 3, size)];
     assert!(sample.with(&third));
     let fourth = |size| {
         let mut changes = third.to_vec();
         changes.extend([(at::POOL_EXISTS + 4, 1), (at::COUNT + 4, 1), (at::SIZE + 4, size)]);
         sample.with(&changes)
     };
-    assert!(fourth(20));
-    assert!(!fourth(21));
+    assert!(fourth(left - count * size));
+    assert!(!fourth(left - count * size + 1));
 }
 
 #[test]
@@ -274,7 +262,7 @@ fn arrivals() {
         [2, 1, 3, 4, 4, 0],
         [2, 1, 3, 4, 6, 0],
         [2, 1, 3, 4, 7, 0],
-        [2, 1, 3, 4, 17, 0],
+        [2, 1, 3, 4, LAST + 1, 0],
         [0, 2, 1, 3, 4, 5],
         [2, 1, 3, 4, u32::MAX, 0],
     ] {
@@ -287,7 +275,7 @@ fn arrivals() {
 fn priorities_afresh() {
     let sample = sample();
     for task in 1..=6 {
-        for priority in 0..=17 {
+        for priority in 0..=LEAST + 1 {
             let same = sample.words[at::CURRENT + task] == priority;
             assert_eq!(sample.with(&[(at::CURRENT + task, priority)]), same, "{task} {priority}");
         }
@@ -311,8 +299,8 @@ fn priorities_afresh() {
         words[at::CURRENT + 2] = second;
         check(&words, &[0; STORE], &[0; OUTBOX])
     };
-    for first in 1..=16 {
-        for second in 1..=16 {
+    for first in 1..=LEAST {
+        for second in 1..=LEAST {
             assert_eq!(circle(first, second), (first, second) == (8, 8));
         }
     }
@@ -421,7 +409,7 @@ fn words_of_any_value() {
                     1 => lent.words[at].wrapping_add(1),
                     2 => lent.words[at].wrapping_sub(1),
                     3 => lent.words[random.below(WORDS)],
-                    _ => random.below(18) as u32,
+                    _ => random.below(PER_TASK + 1) as u32,
                 };
             }
             if random.percent(10) {
@@ -445,9 +433,9 @@ fn words_of_any_value() {
     assert!(kept > 500, "{kept} states stayed valid");
 }
 
-/// Nothing but noise.
+/// Every word random.
 #[test]
-fn words_of_noise() {
+fn random_words() {
     let mut random = Random::new(3);
     let areas = ([0; STORE], [0; OUTBOX]);
     for round in 0..5_000 {
@@ -457,7 +445,7 @@ fn words_of_noise() {
                 0 => random.word() as u32,
                 1 => random.below(4) as u32,
                 2 => random.below(2) as u32,
-                _ => random.pick(&[0, 0, 0, 1, 2, 3, u32::MAX, 1 << 31, 17]),
+                _ => random.pick(&[0, 0, 0, 1, 2, 3, u32::MAX, 1 << 31, LAST + 1]),
             };
         }
         assert!(!check(&words, &areas.0, &areas.1));

@@ -5,7 +5,7 @@ use std::io::{self, BufWriter, Write};
 use std::path::Path;
 use std::process::ExitCode;
 
-use reference::generator::generate;
+use reference::generator::{generate, RECORDS};
 use reference::run_script;
 use reference::selfcheck::self_check;
 use reference::tally::Tally;
@@ -14,7 +14,7 @@ const USAGE: &str = "usage: generate SEED COUNT DIR [--each] [--records N] [--ch
   SEED, COUNT   the scripts 0 to COUNT - 1 of that seed
   DIR           gets the files `scripts` and `logs`; `-` writes nothing
   --each        writes 0.script, 0.log, 1.script, ... instead
-  --records N   at most N records in a script (120)
+  --records N   at most N records in a script
   --check       holds every record against the validity check and the ledger";
 
 struct Options {
@@ -27,18 +27,18 @@ struct Options {
 }
 
 fn options() -> Option<Options> {
-    let mut plain = Vec::new();
-    let (mut each, mut records, mut check) = (false, 120, false);
+    let mut positional = Vec::new();
+    let (mut each, mut records, mut check) = (false, RECORDS, false);
     let mut arguments = std::env::args().skip(1);
     while let Some(argument) = arguments.next() {
         match argument.as_str() {
             "--each" => each = true,
             "--check" => check = true,
             "--records" => records = arguments.next()?.parse().ok()?,
-            _ => plain.push(argument),
+            _ => positional.push(argument),
         }
     }
-    let [seed, count, dir] = plain.try_into().ok()?;
+    let [seed, count, dir] = positional.try_into().ok()?;
     Some(Options {
         seed: seed.parse().ok()?,
         count: count.parse().ok()?,

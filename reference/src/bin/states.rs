@@ -7,7 +7,8 @@ use std::process::ExitCode;
 
 use reference::boundary::BOUNDARIES;
 use reference::clauses::CLAUSES;
-use reference::states::{state, state_at_boundary, state_failing, Kind, State};
+use reference::lent_state::State;
+use reference::states::{state, state_at_boundary, state_failing, Kind};
 
 const USAGE: &str = "usage: states SEED COUNT FILE_IN FILE_OUT [--each-clause N]
   SEED, COUNT       the states 0 to COUNT - 1 of that seed
@@ -25,16 +26,16 @@ struct Options {
 }
 
 fn options() -> Option<Options> {
-    let mut plain = Vec::new();
+    let mut positional = Vec::new();
     let mut each_clause = 0;
     let mut arguments = std::env::args().skip(1);
     while let Some(argument) = arguments.next() {
         match argument.as_str() {
             "--each-clause" => each_clause = arguments.next()?.parse().ok()?,
-            _ => plain.push(argument),
+            _ => positional.push(argument),
         }
     }
-    let [seed, count, file_in, file_out] = plain.try_into().ok()?;
+    let [seed, count, file_in, file_out] = positional.try_into().ok()?;
     let (seed, count) = (seed.parse().ok()?, count.parse().ok()?);
     Some(Options { seed, count, file_in, file_out, each_clause })
 }

@@ -6,15 +6,20 @@ use reference::limits::*;
 use reference::number::TaskNo;
 use reference::{check, Answer, Call, Got, Kernel, Outcome};
 
-pub struct Lab {
+/// The last task, the least urgent priority and the most blocks of a pool, as fields of calls.
+pub const LAST_TASK: i32 = TASKS as i32;
+pub const LEAST_URGENT: i32 = PRIORITIES as i32;
+pub const MOST_BLOCKS: i32 = BLOCKS as i32;
+
+pub struct TestKernel {
     pub kernel: Kernel,
     pub out: Outcome,
     ledger: Ledger,
 }
 
-impl Lab {
-    pub fn new() -> Lab {
-        Lab { kernel: Kernel::fresh(), out: Outcome::default(), ledger: Ledger::fresh() }
+impl TestKernel {
+    pub fn new() -> TestKernel {
+        TestKernel { kernel: Kernel::fresh(), out: Outcome::default(), ledger: Ledger::fresh() }
     }
 
     /// Runs a call; a refused one must leave everything as it was.
@@ -64,17 +69,17 @@ impl Lab {
     /// Makes a ready task run by making it more urgent than all, then gives its base back when it
     /// has made its calls.
     #[track_caller]
-    pub fn as_task(&mut self, task: i32, calls: impl FnOnce(&mut Lab)) {
+    pub fn as_task(&mut self, task: i32, calls: impl FnOnce(&mut TestKernel)) {
         let base = i32::from(self.task(task).base);
         self.ok(chg_pri(task, 1));
-        self.turn_to(task);
+        self.rotate_to(task);
         calls(self);
         self.ok(chg_pri(task, base));
     }
 
     /// Lets the equally urgent tasks before it step behind.
     #[track_caller]
-    pub fn turn_to(&mut self, task: i32) {
+    pub fn rotate_to(&mut self, task: i32) {
         for _ in 0..TASKS {
             if self.running() == task {
                 return;
@@ -87,7 +92,7 @@ impl Lab {
 
     /// Ticks so often; none of them ends a wait.
     #[track_caller]
-    pub fn quiet_ticks(&mut self, count: usize) {
+    pub fn uneventful_ticks(&mut self, count: usize) {
         for _ in 0..count {
             self.ok(Call::Tick);
             assert_eq!(self.ended(), []);
@@ -148,7 +153,7 @@ pub fn cre_mbf(attribute: i32, bufsz: i32, maxmsz: i32) -> Call {
 pub fn del_mbf(buffer: i32) -> Call {
     Call::DelMbf { buffer }
 }
-/// Sends `msgsz` bytes 1, 2, 3, ... of 32.
+/// Sends `msgsz` of the bytes 1, 2, 3, ...
 pub fn snd_mbf(buffer: i32, msgsz: i32, timeout: i32) -> Call {
     Call::SndMbf { buffer, msgsz, timeout, bytes: std::array::from_fn(|i| i as u8 + 1) }
 }
