@@ -14,7 +14,7 @@ ghost use lib.ListN.{length};
 ghost use Rattle.model.specs.Sizes.{buffers, regionBytes};
 ghost use Rattle.model.specs.Lists.{all, upTo};
 ghost use Rattle.model.specs.Valid.{layout, regionLayout};
-ghost use Rattle.state.specs.Words.{wordCount, kernel};
+ghost use Rattle.model.specs.Words.{wordCount, kernel};
 ghost use Rattle.areas.specs.Messages.{oldestLaidOut};
 
 // Whether the oldest message has 1 to maxmsz bytes, costs no more than is used, and is followed by zeros up to its cost.

@@ -11,7 +11,7 @@ ghost use lib.ListN.{length};
 ghost use Rattle.model.specs.Sizes.{tasks};
 ghost use Rattle.model.specs.Lists.{all, upTo};
 ghost use Rattle.model.specs.Valid.{outboxPart};
-ghost use Rattle.state.specs.Words.{wordCount, kernel};
+ghost use Rattle.model.specs.Words.{wordCount, kernel};
 
 // Whether zeros follow the bytes that a task sends; a task that sends nothing has a message of no bytes.
 fn part_laid_out(state: &[u32], outbox: &[u8], t: TaskNumber) -> bool

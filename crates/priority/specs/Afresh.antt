@@ -14,9 +14,10 @@ use Rattle.model.specs.Lists.{_!_, within}
 use Rattle.model.specs.Priority.{ownPriority}
 use Rattle.model.specs.Kernel.{Kernel, facts, standsIn, withTasks, withCurrents}
 use Rattle.model.specs.World.{recompute}
-use Rattle.state.specs.Words.{wordCount, sizes, kernel, fromFields, Represents}
+use Rattle.model.specs.Words.{wordCount, sizes, kernel, fromFields, cut}
+use Rattle.state.specs.Words.{Represents}
 use Rattle.model.specs.Field as field
-use Rattle.state.specs.Layout.{cut, offset, read}
+use Rattle.state.proofs.LayoutLaws.{offset, read}
 use Rattle.priority.specs.Least.{least-first}
 use Rattle.priority.specs.Raise.{raised, Falls}
 use Rattle.priority.specs.Recompute.{allSoFar, soFar-step, soFar-again, allSoFar-agree, soFar-falls}

@@ -18,7 +18,9 @@ use Rattle.model.specs.Kernel.{Kernel, facts, numbered, standsIn, withTasks, wi
 use Rattle.model.specs.Number.{wordNumber, maybeTask, maybeMutex}
 use Rattle.model.specs.declared.number.MaybeTask as mTask
 use Rattle.model.specs.declared.number.MaybeMutex as mMutex
-use Rattle.state.specs.Words.{wordCount, sizes, fields, kernel, sized, size-of, Represents}
+use Rattle.model.specs.Words.{wordCount, sizes, fields, kernel}
+use Rattle.state.proofs.WordLaws.{sized, size-of}
+use Rattle.state.specs.Words.{Represents}
 use Rattle.model.specs.Field as field
 use Rattle.priority.specs.Raise.{raised, Falls, stops, goes, ends-here, falls-on}
 use Rattle.priority.specs.Effective.{awaited-ends}

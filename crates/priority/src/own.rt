@@ -11,7 +11,7 @@ ghost use Prim.Native.Nat.{_≤_};
 ghost use lib.ListN.{length};
 ghost use Rattle.model.specs.Sizes.{tasks, mutexes};
 ghost use Rattle.model.specs.Number.{wordNumber, maybeTask};
-ghost use Rattle.state.specs.Words.{wordCount, kernel};
+ghost use Rattle.model.specs.Words.{wordCount, kernel};
 ghost use Rattle.priority.specs.Own.{ownOf, withCeilingOf, ceilingHolder};
 
 // A mutex's attribute: its ceiling counts for the task that holds it.

@@ -12,7 +12,8 @@ ghost use lib.ListN.{length};
 ghost use Rattle.model.specs.Sizes.{tasks, mutexes};
 ghost use Rattle.model.specs.Number.{wordNumber, maybeTask, maybeMutex};
 ghost use Rattle.model.specs.Kernel.{facts};
-ghost use Rattle.state.specs.Words.{wordCount, kernel, Represents};
+ghost use Rattle.model.specs.Words.{wordCount, kernel};
+ghost use Rattle.state.specs.Words.{Represents};
 ghost use Rattle.priority.specs.Walk.{MayRaise, raisedKernel, MayRaiseFrom, raisedFromMutex, raisedOne, goesOnTo, passesTo};
 
 // A mutex's attribute: its holder inherits the priorities of those that wait for it.

@@ -1,10 +1,2 @@
-pub mod First
-pub mod NextToRun
-pub mod Arrival
-pub mod Order
-pub mod Gather
+pub mod Better
 pub mod Arriving
-pub mod Standing
-pub mod Search
-pub mod Fronts
-pub mod Next

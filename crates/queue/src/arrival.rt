@@ -11,7 +11,8 @@ ghost use Rattle.model.specs.Sizes.{tasks};
 ghost use Rattle.model.specs.Facts.{queue};
 ghost use Rattle.model.specs.Kernel.{withArrivals, departed, arrived};
 ghost use Rattle.model.specs.Act.{arrive as arriving};
-ghost use Rattle.state.specs.Words.{wordCount, kernel, Represents};
+ghost use Rattle.model.specs.Words.{wordCount, kernel};
+ghost use Rattle.state.specs.Words.{Represents};
 ghost use Rattle.queue.specs.Arriving.{Kept, Gathered, clearedFrom};
 
 const PLACES: usize = TASKS as usize;

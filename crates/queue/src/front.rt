@@ -22,8 +22,8 @@ ghost use Rattle.model.specs.Facts.{queue};
 ghost use Rattle.model.specs.Queue.{byPriority, sorted};
 ghost use Rattle.model.specs.Kernel.{facts, numbered, standsIn};
 ghost use Rattle.model.specs.World.{queueFront, headsQueue};
-ghost use Rattle.state.specs.Words.{wordCount, kernel};
-ghost use Rattle.queue.specs.First.{better};
+ghost use Rattle.model.specs.Words.{wordCount, kernel};
+ghost use Rattle.queue.specs.Better.{better};
 
 pub(crate) const PLACES: usize = TASKS as usize;
 

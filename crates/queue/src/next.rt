@@ -16,7 +16,7 @@ ghost use Rattle.model.specs.Number.{maybeTask};
 ghost use Rattle.model.specs.Facts.{readyQueue};
 ghost use Rattle.model.specs.Kernel.{numbered, standsIn};
 ghost use Rattle.model.specs.World.{running};
-ghost use Rattle.state.specs.Words.{wordCount, kernel};
+ghost use Rattle.model.specs.Words.{wordCount, kernel};
 
 // Whether the task of a number is ready at a priority.
 fn ready_at(state: &[u32], u: u32, p: u32) -> bool

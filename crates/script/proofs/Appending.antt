@@ -10,7 +10,8 @@ use lib.Seq.{paste, paste-zero, length-paste, take-paste, drop-paste, take-lengt
 use borrow.Author.Tests.{le-leb, lt-leb}
 use Rattle.model.specs.World.{Ended}
 use Rattle.model.specs.Log.{endedBytes, deliveryBytes}
-use Rattle.script.specs.Place.{room, over, placed, nextPlace, Appends}
+use Rattle.script.specs.Place.{room, placed, nextPlace, Appends}
+use Rattle.model.specs.Message.{over}
 use Rattle.script.specs.Item.{endedWith}
 
 -- the whole of the bytes, as a copy of their full length

@@ -7,7 +7,8 @@ use mathlib.Core.List.{List, [], _∷_, _++_}
 use lib.ListN.{length, take, drop, length-take, length-replicate}
 use Rattle.model.specs.Lists.{zeros, padded}
 use Rattle.model.proofs.ListLaws.{take-zeros}
-use Rattle.script.specs.Place.{over, placed}
+use Rattle.model.specs.Message.{over}
+use Rattle.script.specs.Place.{placed}
 use Rattle.script.proofs.Appending.{placed-room}
 
 -- at most n of a list, and the zeros that are left of n

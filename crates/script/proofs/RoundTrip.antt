@@ -18,7 +18,7 @@ use Rattle.model.specs.Code.{bytes4, number4, signed, bits, codeBytes}
 use Rattle.model.specs.Record.{Fit, FieldsFit, rowOf, field, readHere, readRecord, messageHere, recordMessage, kindOf, fieldsOf, recordBytes}
 use Rattle.script.specs.Body.{fieldAt}
 use Rattle.script.specs.declared.writer.Wrote.the-variants.{Next}
-use Rattle.script.specs.Place.{over}
+use Rattle.model.specs.Message.{over}
 use Rattle.script.specs.Write.{messageLength, Writes}
 use Rattle.script.proofs.Signed.{signed-bits, bits-signed}
 use Rattle.script.proofs.Rows.{row-kind, fields-fit, kind-made, fields-made, call-agrees}

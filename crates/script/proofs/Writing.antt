@@ -16,7 +16,8 @@ use Rattle.model.specs.Code.{codeBytes}
 use Rattle.model.specs.Record.{Row, kinds, rowOf, kindOf, fieldsOf, recordBytes}
 use Rattle.script.specs.declared.writer.Wrote.{Wrote}
 use Rattle.script.specs.declared.writer.Wrote.the-variants.{Next, NoRoom, WrongMessage}
-use Rattle.script.specs.Place.{room, over, Appends}
+use Rattle.script.specs.Place.{room, Appends}
+use Rattle.model.specs.Message.{over}
 use Rattle.script.specs.Body.{fieldAt}
 use Rattle.script.specs.Write.{messageLength, wrote, rewritten, Writes, callHead, headBytes}
 use Rattle.script.proofs.Rows.{KnownParts, fields-few}

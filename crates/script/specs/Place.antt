@@ -5,7 +5,7 @@ use mathlib.Core.Bool.{Bool, cond}
 use mathlib.Core.List.{List}
 use lib.ListN.{length}
 use lib.Dec.{leb}
-unfoldable pub use Rattle.model.specs.Message.{over}
+use Rattle.model.specs.Message.{over}
 
 -- there is room for n bytes from a place on
 abbrev pub room : ℕ → ℕ → ℕ → Bool

@@ -12,7 +12,8 @@ use Rattle.model.specs.Record.{rowOf, kindOf, fieldsOf, recordBytes}
 use Rattle.script.specs.declared.writer.Head.{Head}
 use Rattle.script.specs.declared.writer.Wrote.{Wrote}
 use Rattle.script.specs.declared.writer.Wrote.the-variants.{Next, NoRoom, WrongMessage}
-use Rattle.script.specs.Place.{room, over}
+use Rattle.script.specs.Place.{room}
+use Rattle.model.specs.Message.{over}
 use Rattle.script.specs.Body.{fieldAt}
 
 -- how long a kind's message is

@@ -6,8 +6,10 @@ use mathlib.Core.Path.{_≡_, _∙_, ap}
 use mathlib.Core.List.{List, []}
 use lib.ListN.{length, getD, set}
 use Rattle.model.specs.Lists.{_!_}
-use Rattle.state.specs.Layout.{cut, offset, entry, withEntry, read, stored, length-withEntry}
-use Rattle.state.specs.Words.{sizes, wordCount, fromFields, kernel, Represents}
+use Rattle.model.specs.Words.{cut, sizes, wordCount, fromFields, kernel}
+use Rattle.state.proofs.LayoutLaws.{offset, read, stored, length-withEntry}
+use Rattle.state.specs.Layout.{entry, withEntry}
+use Rattle.state.specs.Words.{Represents}
 
 module _ (w : List ℕ) (f : ℕ) {n i : ℕ} where
   pub got : {r : ℕ} → r ≡ entry w (offset sizes f) (getD sizes f 0) n → n ≡ i → r ≡ getD (cut sizes w) f [] ! i

@@ -1,1 +1,6 @@
 mod Accessor
+pub mod LayoutLaws
+pub mod WordLaws
+pub mod Zero
+pub mod Currents
+pub mod FreshLaws

@@ -1,5 +1,3 @@
 pub mod Layout
 pub mod Words
-pub mod Zero
 pub mod Fresh
-pub mod Currents

@@ -6,7 +6,8 @@ use super::layout::put;
 ghost use mathlib.Core.Path.{_≡_};
 ghost use lib.ListN.{length};
 ghost use Rattle.model.specs.Lists.{_!_};
-ghost use Rattle.state.specs.Words.{wordCount, kernel, withArrival, Represents};
+ghost use Rattle.model.specs.Words.{wordCount, kernel};
+ghost use Rattle.state.specs.Words.{withArrival, Represents};
 
 // The number of the task at a place of the order, counted from 0; 0 for none.
 pub fn task(state: &[u32], place: usize) -> u32

@@ -11,7 +11,8 @@ ghost use mathlib.Core.Path.{_≡_};
 ghost use lib.ListN.{length};
 ghost use Rattle.model.specs.Lists.{_!_};
 ghost use Rattle.model.specs.Kernel.{withMutexExists, withMutexAttribute, withCeiling, withHolder};
-ghost use Rattle.state.specs.Words.{wordCount, kernel, Represents};
+ghost use Rattle.model.specs.Words.{wordCount, kernel};
+ghost use Rattle.state.specs.Words.{Represents};
 
 // 1 if the mutex exists, else 0.
 pub fn exists(state: &[u32], m: MutexNumber) -> u32

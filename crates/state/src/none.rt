@@ -37,7 +37,7 @@ ghost use Rattle.model.specs.Lists.{_!_, all, countFrom};
 ghost use Rattle.model.specs.Kernel.{slot};
 ghost use Rattle.model.specs.Valid.{lists, taskLists, mutexLists, bufferLists, poolLists};
 ghost use Rattle.state.specs.Layout.{entry};
-ghost use Rattle.state.specs.Words.{wordCount, kernel};
+ghost use Rattle.model.specs.Words.{wordCount, kernel};
 
 // Whether a field's entry 0 is 0.
 fn zero(state: &[u32], at: usize, slots: usize) -> bool

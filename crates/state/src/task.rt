@@ -18,7 +18,8 @@ ghost use lib.ListN.{length, replicate};
 ghost use Rattle.model.specs.Sizes.{tasks};
 ghost use Rattle.model.specs.Lists.{_!_};
 ghost use Rattle.model.specs.Kernel.{withPlace, withObject, withArgument, withInitial, withBase, withCurrent, withCurrents, withLeft};
-ghost use Rattle.state.specs.Words.{wordCount, kernel, Represents};
+ghost use Rattle.model.specs.Words.{wordCount, kernel};
+ghost use Rattle.state.specs.Words.{Represents};
 
 // Where a task stands: absent, dormant, or in a queue: ready, or waiting to lock a mutex, to send, to receive, to get a block.
 pub const ABSENT: u32 = 0;

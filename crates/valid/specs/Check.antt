@@ -14,7 +14,8 @@ use Rattle.model.specs.World.{Lent}
 use Rattle.model.specs.Refusal.{poolSum}
 use Rattle.model.specs.Valid.{lists, Lists, taskLists, mutexLists, bufferLists, poolLists, lengths, taskRange, mutexRange, bufferRange, poolRange, blockFlag, argument, waitFields, arrivals, currentPriorities, ceiling, lockingTask, gettingTask, receivingTask, firstSender, regionLayout, outboxPart, valid}
 use Rattle.model.proofs.FlagLaws.{every, joinedFlags, joined-every, passes, test-by-test, every-append, same-flags}
-use Rattle.state.specs.Words.{wordCount, sizes, fields, kernel, sized, size-of}
+use Rattle.model.specs.Words.{wordCount, sizes, fields, kernel}
+use Rattle.state.proofs.WordLaws.{sized, size-of}
 use Rattle.model.specs.Field as field
 use Rattle.valid.specs.Lent.{lent, isValid}
 use Rattle.valid.specs.Tests.{Agrees, and3, and4, eq-agrees}

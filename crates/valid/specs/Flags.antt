@@ -11,7 +11,8 @@ use borrow.Author.Tests.{eq-eqb, ne-eqb}
 use Rattle.model.specs.Sizes.{tasks}
 use Rattle.model.specs.Lists.{_!_}
 use Rattle.model.specs.Facts.{ready}
-use Rattle.state.specs.Words.{wordCount, sizes, fields, kernel, sized, size-of}
+use Rattle.model.specs.Words.{wordCount, sizes, fields, kernel}
+use Rattle.state.proofs.WordLaws.{sized, size-of}
 use Rattle.model.specs.Field as field
 use Rattle.model.proofs.NumberLaws.{Names, NamesNone}
 

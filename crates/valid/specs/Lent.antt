@@ -6,7 +6,7 @@ use lib.ListN.{length}
 use lib.Dec.{eqb}
 use Rattle.model.specs.World.{Lent}
 use Rattle.model.specs.Valid.{valid}
-use Rattle.state.specs.Words.{wordCount, kernel}
+use Rattle.model.specs.Words.{wordCount, kernel}
 
 abbrev pub lent : List ℕ → List ℕ → List ℕ → Lent
 lent words store outbox = record { kernel = kernel words; store = store; outbox = outbox }

@@ -20,7 +20,7 @@ use Rattle.model.specs.Valid.{valid}
 use Rattle.model.specs.declared.number.BufferNumber.{BufferNumber}
 use Rattle.model.specs.declared.number.TaskNumber.{TaskNumber}
 use Rattle.model.proofs.NumberLaws.{field-inside, field-outside}
-use Rattle.state.specs.Words.{wordCount, kernel}
+use Rattle.model.specs.Words.{wordCount, kernel}
 use Rattle.message.specs.NextMessage.{messageAt, located, hasBuffer, nextLocation}
 use Rattle.message.specs.declared.next.Location.{Location}
 use Rattle.message.specs.declared.next.Location.the-variants.{Stored, Sent, Nowhere}

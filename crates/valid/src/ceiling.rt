@@ -11,7 +11,7 @@ ghost use lib.ListN.{length};
 ghost use Rattle.model.specs.Sizes.{mutexes};
 ghost use Rattle.model.specs.Lists.{all, upTo};
 ghost use Rattle.model.specs.Valid.{ceiling};
-ghost use Rattle.state.specs.Words.{wordCount, kernel};
+ghost use Rattle.model.specs.Words.{wordCount, kernel};
 
 // The sentence of one task and one mutex; above is more urgent, a lesser number.
 fn ceiling(state: &[u32], t: TaskNumber, m: MutexNumber) -> bool

@@ -11,7 +11,7 @@ ghost use lib.ListN.{length};
 ghost use Rattle.model.specs.Sizes.{mutexes, buffers, pools};
 ghost use Rattle.model.specs.Lists.{_!_};
 ghost use Rattle.model.specs.Valid.{Lists, mutexLists, bufferLists, poolLists};
-ghost use Rattle.state.specs.Words.{wordCount, kernel};
+ghost use Rattle.model.specs.Words.{wordCount, kernel};
 
 // 1 if the object exists, else 0.
 pub(crate) fn mutex_exists(state: &[u32], n: u32) -> u32

@@ -21,7 +21,7 @@ ghost use lib.ListN.{length};
 ghost use Rattle.model.specs.Sizes.{tasks, mutexes, buffers, pools};
 ghost use Rattle.model.specs.Valid.{Lists, taskLists, mutexLists, bufferLists, poolLists};
 ghost use Rattle.model.proofs.FlagLaws.{joinedFlags};
-ghost use Rattle.state.specs.Words.{wordCount, kernel};
+ghost use Rattle.model.specs.Words.{wordCount, kernel};
 ghost use Rattle.valid.specs.Lent.{lent, isValid};
 ghost use Rattle.valid.specs.Check.{rightLengths, noneZero, clauses};
 

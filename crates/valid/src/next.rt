@@ -10,7 +10,7 @@ use state::task::SENDING;
 ghost use mathlib.Core.Path.{_≡_};
 ghost use lib.ListN.{length};
 ghost use Rattle.message.specs.NextMessage.{located};
-ghost use Rattle.state.specs.Words.{wordCount, kernel};
+ghost use Rattle.model.specs.Words.{wordCount, kernel};
 ghost use Rattle.valid.specs.Shown.{shownLocation, shownMessage};
 
 // "the oldest stored message, else the first sender's".

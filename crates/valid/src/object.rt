@@ -20,7 +20,7 @@ ghost use Rattle.model.specs.Sizes.{tasks, mutexes, buffers, pools};
 ghost use Rattle.model.specs.Lists.{all, upTo};
 ghost use Rattle.model.specs.Valid.{Lists, mutexLists, bufferLists, poolLists};
 ghost use Rattle.model.proofs.FlagLaws.{passes};
-ghost use Rattle.state.specs.Words.{wordCount, kernel};
+ghost use Rattle.model.specs.Words.{wordCount, kernel};
 ghost use Rattle.valid.specs.Check.{taskTests, bufferTests};
 
 // All clauses that are about one task.

@@ -14,7 +14,7 @@ ghost use Rattle.model.specs.Sizes.{pools, blocks, poolBytes};
 ghost use Rattle.model.specs.Lists.{_!_, all, countFrom, upTo};
 ghost use Rattle.model.specs.Refusal.{poolSum};
 ghost use Rattle.model.specs.Valid.{blockFlag, Lists, poolLists};
-ghost use Rattle.state.specs.Words.{wordCount, kernel};
+ghost use Rattle.model.specs.Words.{wordCount, kernel};
 ghost use Rattle.valid.specs.Check.{blockFlags};
 
 // "unused entries as in the fresh bench": a flag is 0, or 1 and its block one of the pool's. Block 0 stands for none and is asked too.

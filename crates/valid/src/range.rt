@@ -28,7 +28,7 @@ ghost use Rattle.model.specs.Lists.{_!_, all, member, upTo, within};
 ghost use Rattle.model.specs.Facts.{ready};
 ghost use Rattle.model.specs.Refusal.{mutexAttributes, bufferAttributes, poolAttributes};
 ghost use Rattle.model.specs.Valid.{taskRange, mutexRange, bufferRange, poolRange};
-ghost use Rattle.state.specs.Words.{wordCount, kernel};
+ghost use Rattle.model.specs.Words.{wordCount, kernel};
 
 // A mutex's attribute: it has a ceiling.
 pub(crate) const CEILINGED: u32 = 3;

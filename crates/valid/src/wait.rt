@@ -10,7 +10,7 @@ ghost use lib.ListN.{length};
 ghost use Rattle.model.specs.Sizes.{mutexes, buffers, pools};
 ghost use Rattle.model.specs.Lists.{_!_};
 ghost use Rattle.model.specs.Valid.{Lists, mutexLists, bufferLists, poolLists, awaitable, argument, waitFields, lockingTask};
-ghost use Rattle.state.specs.Words.{wordCount, kernel};
+ghost use Rattle.model.specs.Words.{wordCount, kernel};
 
 // The most milliseconds that a timeout asks for, and the word for a wait without end.
 const LONGEST: u32 = 0x7FFF_FFFF;

@@ -1,7 +1,7 @@
 -- `raise_holder` meets its contract: the holder is a task, or nobody. Assumes nothing.
 use borrow.Author.Needs.{needs}
 use Rattle.model.specs.Sizes.{tasks}
-use Rattle.state.specs.Words.{kernel}
+use Rattle.model.specs.Words.{kernel}
 use Rattle.priority.specs.Own.{Named, task-named, task-unnamed, ceilingHolder}
 use Rattle.priority.specs.Afresh.{nobody, holder-may, holder-done}
 use Rattle.priority.proofs.raise_holder.Statement.{statement}

@@ -1,7 +1,7 @@
 -- `raise_to_base` meets its contract: a number in range names its task. Assumes nothing.
 use borrow.Author.Needs.{needs}
 use Rattle.model.specs.Sizes.{tasks}
-use Rattle.state.specs.Words.{kernel}
+use Rattle.model.specs.Words.{kernel}
 use Rattle.priority.specs.Own.{Named, task-named, task-unnamed, inside, base-is}
 use Rattle.priority.proofs.raise_to_base.Statement.{statement}
 use Rattle.priority.proofs.raise_to_base.Tie as tie

@@ -4,7 +4,8 @@ use mathlib.Core.Path.{_≡_, _∙_, sym, ap}
 use Prim.Native.Nat.{_≤_, _-_}
 use native.Mathlib.Omega.{arith}
 use Rattle.model.specs.Sizes.{tasks}
-use Rattle.state.specs.Words.{kernel, Represents}
+use Rattle.model.specs.Words.{kernel}
+use Rattle.state.specs.Words.{Represents}
 use Rattle.priority.specs.Afresh.{raisedSoFar, basesRaised, so-far-start, so-far-may, so-far-step, bases-none}
 use Rattle.priority.proofs.raise_to_bases.Statement.{statement}
 use Rattle.priority.proofs.raise_to_bases.Tie as tie

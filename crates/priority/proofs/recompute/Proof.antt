@@ -5,7 +5,8 @@ use Prim.Native.Nat.{_≤_, _-_}
 use native.Mathlib.Omega.{arith}
 use Rattle.model.specs.Sizes.{mutexes}
 use Rattle.model.specs.World.{recompute}
-use Rattle.state.specs.Words.{kernel, Represents}
+use Rattle.model.specs.Words.{kernel}
+use Rattle.state.specs.Words.{Represents}
 use Rattle.priority.specs.Afresh.{holdersSoFar, holders-start, holders-may, holders-step, holders-all, recompute-bases, own-fits}
 use Rattle.priority.proofs.recompute.Statement.{statement}
 use Rattle.priority.proofs.recompute.Tie as tie

@@ -4,8 +4,8 @@ use lib.ListN.{length}
 use native.Mathlib.Omega.{arith}
 use borrow.Author.Needs.{needs}
 use Rattle.model.specs.Kernel.{fresh}
-use Rattle.state.specs.Words.{sizes, wordCount, words, fields}
-use Rattle.state.specs.Fresh.{left-alone, made}
+use Rattle.model.specs.Words.{sizes, wordCount, words, fields}
+use Rattle.state.proofs.FreshLaws.{left-alone, made}
 use Rattle.state.proofs.fresh.Statement.{statement}
 use Rattle.state.proofs.fresh.Tie as tie
 

@@ -1,6 +1,6 @@
 -- `right_lengths` meets its contract: the lengths are compared. Assumes nothing.
 use mathlib.Core.Path.{refl}
-use Rattle.state.specs.Words.{sizes}
+use Rattle.model.specs.Words.{sizes}
 use Rattle.valid.proofs.right_lengths.Statement.{statement}
 use Rattle.valid.proofs.right_lengths.Tie as tie
 

@@ -9,7 +9,7 @@ use borrow.Author.Tests.{not-true, not-false}
 use Rattle.model.specs.Sizes.{buffers}
 use Rattle.model.specs.Valid.{regionLayout}
 use Rattle.model.proofs.NumberLaws.{buffer-there, buffer-none}
-use Rattle.state.specs.Words.{kernel}
+use Rattle.model.specs.Words.{kernel}
 use Rattle.model.proofs.Loops.{Asked, ask-more, ask-stop, ask-never, ask-done}
 use Rattle.areas.proofs.layout.regions_laid_out.Statement.{statement}
 use Rattle.areas.proofs.layout.regions_laid_out.Tie as tie

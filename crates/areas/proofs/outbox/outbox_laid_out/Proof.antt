@@ -9,7 +9,7 @@ use borrow.Author.Tests.{not-true, not-false}
 use Rattle.model.specs.Sizes.{tasks}
 use Rattle.model.specs.Valid.{outboxPart}
 use Rattle.model.proofs.NumberLaws.{task-there, task-none}
-use Rattle.state.specs.Words.{kernel}
+use Rattle.model.specs.Words.{kernel}
 use Rattle.model.proofs.Loops.{Asked, ask-more, ask-stop, ask-never, ask-done}
 use Rattle.areas.proofs.outbox.outbox_laid_out.Statement.{statement}
 use Rattle.areas.proofs.outbox.outbox_laid_out.Tie as tie

@@ -1,6 +1,6 @@
 -- `part_laid_out` meets its contract: a message of all bytes of a part is the part. Assumes nothing.
 use borrow.Author.Needs.{needs}
-use Rattle.state.specs.Words.{kernel}
+use Rattle.model.specs.Words.{kernel}
 use Rattle.areas.specs.Outbox.{part-tests}
 use Rattle.areas.proofs.outbox.part_laid_out.Statement.{statement}
 use Rattle.areas.proofs.outbox.part_laid_out.Tie as tie

@@ -4,7 +4,7 @@ use mathlib.Core.Path.{_≡_, _∙_, sym, ap}
 use Prim.Native.Nat.{ℕ}
 use Rattle.model.specs.Sizes.{tasks, mutexes}
 use Rattle.model.specs.Number.{wordNumber, maybeTask}
-use Rattle.state.specs.Words.{kernel}
+use Rattle.model.specs.Words.{kernel}
 use Rattle.priority.specs.Own.{Named, mutex-named, mutex-unnamed, inside, holder-counts, holder-not}
 use Rattle.priority.proofs.own.ceiling_holder.Statement.{statement}
 use Rattle.priority.proofs.own.ceiling_holder.Tie as tie

@@ -5,7 +5,7 @@ use Prim.Native.Nat.{min}
 use mathlib.Core.Path.{_≡_, _∙_, sym}
 use Rattle.model.specs.Sizes.{mutexes}
 use Rattle.model.specs.Lists.{_!_}
-use Rattle.state.specs.Words.{kernel}
+use Rattle.model.specs.Words.{kernel}
 use Rattle.priority.specs.Own.{Named, mutex-named, mutex-unnamed, inside, withCeilingOf, ceiling-held, not-holder, not-ceilinged}
 use Rattle.priority.proofs.own.with_ceiling.Statement.{statement}
 use Rattle.priority.proofs.own.with_ceiling.Tie as tie

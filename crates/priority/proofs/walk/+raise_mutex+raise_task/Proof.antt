@@ -7,7 +7,8 @@ use native.Mathlib.Omega.{arith}
 use mathlib.Core.List.{List}
 use Rattle.model.specs.Sizes.{tasks, mutexes}
 use Rattle.model.specs.Kernel.{facts}
-use Rattle.state.specs.Words.{kernel, Represents}
+use Rattle.model.specs.Words.{kernel}
+use Rattle.state.specs.Words.{Represents}
 use Rattle.priority.specs.Own.{Named, task-named, task-unnamed, mutex-named, mutex-unnamed}
 use Rattle.priority.specs.Walk.{above, passesTo, goesOnTo, MayRaise, MayRaiseFrom, raisedFromMutex, one-over, fewer-above, onward, onward-done, no-heir, to-holder, to-holder-done}
 use borrow.Fn.Kinds.{In}

@@ -5,7 +5,7 @@ use Prim.Native.Nat.{ℕ}
 use native.Mathlib.Omega.{arith}
 use Rattle.model.specs.Sizes.{tasks}
 use Rattle.model.specs.Number.{wordNumber, maybeTask}
-use Rattle.state.specs.Words.{kernel}
+use Rattle.model.specs.Words.{kernel}
 use Rattle.priority.specs.Walk.{passes-holder, passes-nobody}
 use Rattle.priority.proofs.walk.passes_to.Statement.{statement}
 use Rattle.priority.proofs.walk.passes_to.Tie as tie

@@ -5,7 +5,7 @@ use Prim.Native.Nat.{ℕ, _≤_, _<_}
 use Rattle.model.specs.Sizes.{mutexes}
 use Rattle.model.specs.Number.{wordNumber, maybeMutex}
 use Rattle.model.specs.Lists.{_!_}
-use Rattle.state.specs.Words.{kernel}
+use Rattle.model.specs.Words.{kernel}
 use Rattle.priority.specs.Walk.{one-same, one-ends, one-raised, one-mutex, one-none}
 use Rattle.priority.proofs.walk.raise_one.Statement.{statement}
 use Rattle.priority.proofs.walk.raise_one.Tie as tie

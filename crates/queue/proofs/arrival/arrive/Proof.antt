@@ -1,6 +1,6 @@
 -- `arrive` meets its contract, step by step. Assumes nothing.
 use borrow.Author.Needs.{needs}
-use Rattle.queue.specs.Arriving.{arrives}
+use Rattle.queue.proofs.ArrivingLaws.{arrives}
 use Rattle.queue.proofs.arrival.arrive.Statement.{statement}
 use Rattle.queue.proofs.arrival.arrive.Tie as tie
 

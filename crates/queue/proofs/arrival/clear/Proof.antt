@@ -4,7 +4,7 @@ use native.Mathlib.Omega.{arith}
 use mathlib.Core.Path.{_∙_, sym}
 use borrow.Author.Needs.{needs}
 use Rattle.model.specs.Sizes.{tasks}
-use Rattle.queue.specs.Arriving.{Clearing, clear-start, clear-more, clear-done}
+use Rattle.queue.proofs.ArrivingLaws.{Clearing, clear-start, clear-more, clear-done}
 use Rattle.queue.proofs.arrival.clear.Statement.{statement}
 use Rattle.queue.proofs.arrival.clear.Tie as tie
 

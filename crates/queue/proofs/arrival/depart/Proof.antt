@@ -1,6 +1,6 @@
 -- `depart` meets its contract: the others are gathered, the rest is cleared. Assumes nothing.
 use borrow.Author.Needs.{needs}
-use Rattle.queue.specs.Arriving.{departs}
+use Rattle.queue.proofs.ArrivingLaws.{departs}
 use Rattle.queue.proofs.arrival.depart.Statement.{statement}
 use Rattle.queue.proofs.arrival.depart.Tie as tie
 

@@ -6,9 +6,10 @@ use lib.ListN.{length}
 use borrow.Author.Needs.{needs}
 use Rattle.model.specs.Sizes.{tasks}
 use Rattle.model.specs.Kernel.{withArrivals}
-use Rattle.state.specs.Words.{wordCount, kernel, Represents}
-use Rattle.queue.specs.Gather.{gathered, count}
-use Rattle.queue.specs.Arriving.{gather-start, gather-more, gather-done, Gathering}
+use Rattle.model.specs.Words.{wordCount, kernel}
+use Rattle.state.specs.Words.{Represents}
+use Rattle.queue.proofs.Gather.{gathered, count}
+use Rattle.queue.proofs.ArrivingLaws.{gather-start, gather-more, gather-done, Gathering}
 use Rattle.queue.proofs.arrival.gather.Statement.{statement}
 use Rattle.queue.proofs.arrival.gather.Tie as tie
 

@@ -1,7 +1,7 @@
 -- `keep` meets its contract: the tests pick the case. Assumes nothing.
 use mathlib.Core.Path.{_∙_, sym}
 use borrow.Author.Needs.{needs}
-use Rattle.queue.specs.Arriving.{kept-none, kept-itself, kept-other}
+use Rattle.queue.proofs.ArrivingLaws.{kept-none, kept-itself, kept-other}
 use Rattle.queue.proofs.arrival.keep.Statement.{statement}
 use Rattle.queue.proofs.arrival.keep.Tie as tie
 

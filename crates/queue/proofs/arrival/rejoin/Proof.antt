@@ -1,6 +1,6 @@
 -- `rejoin` meets its contract: the others are gathered, the task stands behind them, the rest is cleared. Assumes nothing.
 use borrow.Author.Needs.{needs}
-use Rattle.queue.specs.Arriving.{rejoins}
+use Rattle.queue.proofs.ArrivingLaws.{rejoins}
 use Rattle.queue.proofs.arrival.rejoin.Statement.{statement}
 use Rattle.queue.proofs.arrival.rejoin.Tie as tie
 

@@ -3,8 +3,8 @@ use Prim.Native.Nat.{ℕ}
 use mathlib.Core.List.{List}
 use borrow.Author.Needs.{needs}
 use Rattle.model.specs.Kernel.{numbered}
-use Rattle.state.specs.Words.{kernel}
-use Rattle.queue.specs.Standing.{better-none, better-yes, better-no}
+use Rattle.model.specs.Words.{kernel}
+use Rattle.queue.proofs.Standing.{better-none, better-yes, better-no}
 use Rattle.queue.proofs.front.better_of.Statement.{statement}
 use Rattle.queue.proofs.front.better_of.Tie as tie
 

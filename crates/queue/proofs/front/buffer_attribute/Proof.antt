@@ -3,8 +3,9 @@ use mathlib.Core.Path.{_∙_, sym}
 use borrow.Author.Needs.{needs}
 use Rattle.model.specs.Sizes.{buffers}
 use Rattle.model.proofs.NumberLaws.{buffer-there, buffer-none}
-use Rattle.state.specs.Words.{kernel}
-use Rattle.queue.specs.Standing.{entry-there, entry-none, buffers-long}
+use Rattle.model.specs.Words.{kernel}
+use Rattle.queue.proofs.Standing.{entry-there, entry-none}
+use Rattle.state.proofs.WordLaws.{buffers-long}
 use Rattle.queue.proofs.front.buffer_attribute.Statement.{statement}
 use Rattle.queue.proofs.front.buffer_attribute.Tie as tie
 

@@ -1,7 +1,7 @@
 -- `by_priority` meets its contract: the tests pick the kind of queue. Assumes nothing.
 use borrow.Author.Needs.{needs}
 use Rattle.model.specs.Kernel.{facts}
-use Rattle.queue.specs.Standing.{by-ready, by-locking, by-sending, by-getting, by-arrival}
+use Rattle.queue.proofs.Standing.{by-ready, by-locking, by-sending, by-getting, by-arrival}
 use Rattle.queue.proofs.front.by_priority.Statement.{statement}
 use Rattle.queue.proofs.front.by_priority.Tie as tie
 

@@ -3,8 +3,9 @@ use mathlib.Core.Path.{_∙_, sym}
 use borrow.Author.Needs.{needs}
 use Rattle.model.specs.Sizes.{tasks}
 use Rattle.model.proofs.NumberLaws.{task-there, task-none}
-use Rattle.state.specs.Words.{kernel}
-use Rattle.queue.specs.Standing.{entry-there, entry-none, currents-long}
+use Rattle.model.specs.Words.{kernel}
+use Rattle.queue.proofs.Standing.{entry-there, entry-none}
+use Rattle.state.proofs.WordLaws.{currents-long}
 use Rattle.queue.proofs.front.current.Statement.{statement}
 use Rattle.queue.proofs.front.current.Tie as tie
 

@@ -1,7 +1,7 @@
 -- `front` meets its contract: the test picks the search, whose number is the front's. Assumes nothing.
 use mathlib.Core.Path.{_∙_, sym}
 use borrow.Author.Needs.{needs}
-use Rattle.queue.specs.Fronts.{front-urgent, front-oldest, front-found}
+use Rattle.queue.proofs.Fronts.{front-urgent, front-oldest, front-found}
 use Rattle.queue.proofs.front.front.Statement.{statement}
 use Rattle.queue.proofs.front.front.Tie as tie
 

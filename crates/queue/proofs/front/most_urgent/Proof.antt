@@ -10,10 +10,10 @@ use Rattle.model.specs.Sizes.{tasks}
 use Rattle.model.specs.Lists.{_!_, select, headOf}
 use Rattle.model.specs.Facts.{queue}
 use Rattle.model.specs.Kernel.{numbered, standsIn}
-use Rattle.state.specs.Words.{wordCount, kernel}
-use Rattle.queue.specs.First.{better}
-use Rattle.queue.specs.Search.{best-more, best-end, best-of-all}
-use Rattle.queue.specs.Standing.{arrivals-long}
+use Rattle.model.specs.Words.{wordCount, kernel}
+use Rattle.queue.specs.Better.{better}
+use Rattle.queue.proofs.Search.{best-more, best-end, best-of-all}
+use Rattle.state.proofs.WordLaws.{arrivals-long}
 use Rattle.queue.proofs.front.most_urgent.Statement.{statement}
 use Rattle.queue.proofs.front.most_urgent.Tie as tie
 

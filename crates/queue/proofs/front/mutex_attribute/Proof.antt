@@ -3,8 +3,9 @@ use mathlib.Core.Path.{_∙_, sym}
 use borrow.Author.Needs.{needs}
 use Rattle.model.specs.Sizes.{mutexes}
 use Rattle.model.proofs.NumberLaws.{mutex-there, mutex-none}
-use Rattle.state.specs.Words.{kernel}
-use Rattle.queue.specs.Standing.{entry-there, entry-none, mutexes-long}
+use Rattle.model.specs.Words.{kernel}
+use Rattle.queue.proofs.Standing.{entry-there, entry-none}
+use Rattle.state.proofs.WordLaws.{mutexes-long}
 use Rattle.queue.proofs.front.mutex_attribute.Statement.{statement}
 use Rattle.queue.proofs.front.mutex_attribute.Tie as tie
 

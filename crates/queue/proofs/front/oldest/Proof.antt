@@ -9,9 +9,9 @@ use Rattle.model.specs.Sizes.{tasks}
 use Rattle.model.specs.Lists.{_!_, select, headOf}
 use Rattle.model.specs.Facts.{queue}
 use Rattle.model.specs.Kernel.{numbered, standsIn}
-use Rattle.state.specs.Words.{wordCount, kernel}
-use Rattle.queue.specs.Search.{nobody-left, first-hit, first-miss}
-use Rattle.queue.specs.Standing.{arrivals-long}
+use Rattle.model.specs.Words.{wordCount, kernel}
+use Rattle.queue.proofs.Search.{nobody-left, first-hit, first-miss}
+use Rattle.state.proofs.WordLaws.{arrivals-long}
 use Rattle.queue.proofs.front.oldest.Statement.{statement}
 use Rattle.queue.proofs.front.oldest.Tie as tie
 

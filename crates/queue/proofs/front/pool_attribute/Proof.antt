@@ -3,8 +3,9 @@ use mathlib.Core.Path.{_∙_, sym}
 use borrow.Author.Needs.{needs}
 use Rattle.model.specs.Sizes.{pools}
 use Rattle.model.proofs.NumberLaws.{pool-there, pool-none}
-use Rattle.state.specs.Words.{kernel}
-use Rattle.queue.specs.Standing.{entry-there, entry-none, pools-long}
+use Rattle.model.specs.Words.{kernel}
+use Rattle.queue.proofs.Standing.{entry-there, entry-none}
+use Rattle.state.proofs.WordLaws.{pools-long}
 use Rattle.queue.proofs.front.pool_attribute.Statement.{statement}
 use Rattle.queue.proofs.front.pool_attribute.Tie as tie
 

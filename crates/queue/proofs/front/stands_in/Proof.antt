@@ -2,7 +2,7 @@
 use mathlib.Core.Path.{_∙_, sym}
 use borrow.Author.Needs.{needs}
 use Rattle.model.proofs.NumberLaws.{task-there, task-none}
-use Rattle.queue.specs.Standing.{stands-nowhere, stands-elsewhere, stands-there}
+use Rattle.queue.proofs.Standing.{stands-nowhere, stands-elsewhere, stands-there}
 use Rattle.queue.proofs.front.stands_in.Statement.{statement}
 use Rattle.queue.proofs.front.stands_in.Tie as tie
 

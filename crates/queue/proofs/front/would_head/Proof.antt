@@ -5,8 +5,8 @@ use lib.Dec.{ltb}
 use borrow.Author.Needs.{needs}
 use Rattle.model.specs.Lists.{_!_}
 use Rattle.model.proofs.NumberLaws.{task-is, task-is-none}
-use Rattle.state.specs.Words.{kernel}
-use Rattle.queue.specs.Fronts.{heads-empty, heads-itself, heads-by-priority, heads-by-arrival}
+use Rattle.model.specs.Words.{kernel}
+use Rattle.queue.proofs.Fronts.{heads-empty, heads-itself, heads-by-priority, heads-by-arrival}
 use Rattle.queue.proofs.front.would_head.Statement.{statement}
 use Rattle.queue.proofs.front.would_head.Tie as tie
 

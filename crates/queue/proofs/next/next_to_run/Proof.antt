@@ -5,7 +5,7 @@ use mathlib.Core.Path.{_≡_, _∙_, refl, sym}
 use borrow.Author.Needs.{needs}
 use Rattle.model.specs.Sizes.{tasks, priorities}
 use Rattle.model.specs.declared.number.MaybeTask.the-variants.{Nothing}
-use Rattle.queue.specs.Next.{Searching, Looking, search-start, search-done, look-start, look-more, look-done, look-hit}
+use Rattle.queue.proofs.NextLaws.{Searching, Looking, search-start, search-done, look-start, look-more, look-done, look-hit}
 use Rattle.queue.proofs.next.next_to_run.Statement.{statement}
 use Rattle.queue.proofs.next.next_to_run.Tie as tie
 

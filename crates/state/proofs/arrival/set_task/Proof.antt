@@ -3,7 +3,7 @@ use mathlib.Core.Path.{refl}
 use native.Mathlib.Omega.{arith}
 use borrow.Author.Needs.{needs}
 use Rattle.model.specs.Kernel.{withArrivals}
-use Rattle.state.specs.Words.{kernel, sizes, fromFields}
+use Rattle.model.specs.Words.{kernel, sizes, fromFields}
 use Rattle.model.specs.Field as field
 use Rattle.state.proofs.Accessor.{put}
 use Rattle.state.proofs.arrival.set_task.Statement.{statement}

@@ -1,7 +1,7 @@
 -- `task` meets its contract: it reads its field. Assumes nothing.
 use mathlib.Core.Path.{refl}
 use native.Mathlib.Omega.{arith}
-use Rattle.state.specs.Words.{kernel, sizes, fromFields}
+use Rattle.model.specs.Words.{kernel, sizes, fromFields}
 use Rattle.model.specs.Field as field
 use Rattle.state.proofs.Accessor.{got}
 use Rattle.state.proofs.arrival.task.Statement.{statement}

@@ -2,7 +2,7 @@
 use native.Mathlib.Omega.{arith}
 use borrow.Author.Needs.{needs}
 use Rattle.model.specs.Kernel.{withMaxmsz}
-use Rattle.state.specs.Words.{kernel, sizes, fromFields}
+use Rattle.model.specs.Words.{kernel, sizes, fromFields}
 use Rattle.model.specs.Field as field
 use Rattle.state.proofs.Accessor.{put}
 use Rattle.state.proofs.buffer.set_maxmsz.Statement.{statement}

@@ -1,7 +1,7 @@
 -- `attribute` meets its contract: it reads its field. Assumes nothing.
 use native.Mathlib.Omega.{arith}
 use borrow.Author.Needs.{needs}
-use Rattle.state.specs.Words.{kernel, sizes, fromFields}
+use Rattle.model.specs.Words.{kernel, sizes, fromFields}
 use Rattle.model.specs.Field as field
 use Rattle.state.proofs.Accessor.{got}
 use Rattle.state.proofs.mutex.attribute.Statement.{statement}

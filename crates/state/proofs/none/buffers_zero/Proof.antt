@@ -6,9 +6,10 @@ use lib.ListN.{length, getD}
 use Prim.Native.Nat.{ℕ}
 use Rattle.model.specs.Sizes.{buffers}
 use Rattle.model.specs.Valid.{bufferLists}
-use Rattle.state.specs.Words.{kernel, sizes, fields, fromFields, sized, size-of}
+use Rattle.model.specs.Words.{kernel, sizes, fields, fromFields}
+use Rattle.state.proofs.WordLaws.{sized, size-of}
 use Rattle.model.specs.Field as field
-use Rattle.state.specs.Zero.{told, entry-zero}
+use Rattle.state.proofs.Zero.{told, entry-zero}
 use Rattle.state.proofs.none.buffers_zero.Statement.{statement}
 use Rattle.state.proofs.none.buffers_zero.Tie as tie
 

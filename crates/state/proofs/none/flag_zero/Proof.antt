@@ -4,7 +4,7 @@ use native.Mathlib.Nat.{zero-add}
 use native.Mathlib.Omega.{arith}
 use mathlib.Core.Path.{ap, sym}
 use lib.Dec.{eqb}
-use Rattle.state.specs.Words.{kernel, sizes, fromFields}
+use Rattle.model.specs.Words.{kernel, sizes, fromFields}
 use Rattle.model.specs.Field as field
 use Rattle.state.proofs.Accessor.{got}
 use Rattle.state.proofs.none.flag_zero.Statement.{statement}

@@ -11,7 +11,7 @@ use Rattle.model.specs.Sizes.{blocks}
 use Rattle.model.specs.Lists.{_!_, all, countFrom}
 use Rattle.model.specs.Kernel.{slot}
 use Rattle.model.proofs.Loops.{Left, left-more, left-stop, left-done}
-use Rattle.state.specs.Words.{kernel}
+use Rattle.model.specs.Words.{kernel}
 use Rattle.state.proofs.none.flags_zero.Statement.{statement}
 use Rattle.state.proofs.none.flags_zero.Tie as tie
 

@@ -4,12 +4,12 @@ use native.Mathlib.Omega.{arith}
 use mathlib.Core.Path.{_∙_, sym}
 use borrow.Author.Needs.{needs}
 use Rattle.model.specs.Sizes.{tasks}
-use Rattle.state.specs.Currents.{Filling, fill-start, fill-step, fill-done}
+use Rattle.state.proofs.Currents.{CurrentsFilled, fill-start, fill-step, fill-done}
 use Rattle.state.proofs.task.set_every_current.Statement.{statement}
 use Rattle.state.proofs.task.set_every_current.Tie as tie
 
 abbrev Inv-loop : tie.InvT-loop
-Inv-loop state₀ v n₀ state n = Filling state₀ state v n
+Inv-loop state₀ v n₀ state n = CurrentsFilled state₀ state v n
 
 abbrev μ-loop : tie.MeasureT-loop
 μ-loop state₀ v n₀ state n = tasks - n

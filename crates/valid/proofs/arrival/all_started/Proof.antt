@@ -11,8 +11,8 @@ use borrow.Author.Tests.{not-true, not-false}
 use Rattle.model.specs.Sizes.{tasks}
 use Rattle.model.specs.Lists.{_!_, all}
 use Rattle.model.specs.Facts.{ready}
-use Rattle.state.specs.Words.{kernel}
-use Rattle.queue.specs.Standing.{arrivals-long}
+use Rattle.model.specs.Words.{kernel}
+use Rattle.state.proofs.WordLaws.{arrivals-long}
 use Rattle.valid.specs.Arrivals.{hasStarted, not-not-or, places-more, places-stop, places-end}
 use Rattle.valid.proofs.arrival.all_started.Statement.{statement}
 use Rattle.valid.proofs.arrival.all_started.Tie as tie

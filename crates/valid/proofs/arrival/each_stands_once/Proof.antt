@@ -8,7 +8,7 @@ use borrow.Author.Needs.{needs}
 use borrow.Author.Tests.{not-true, not-false}
 use Rattle.model.specs.Sizes.{tasks}
 use Rattle.model.proofs.NumberLaws.{task-there, task-none}
-use Rattle.state.specs.Words.{kernel}
+use Rattle.model.specs.Words.{kernel}
 use Rattle.valid.specs.Arrivals.{standsOnce}
 use Rattle.model.proofs.Loops.{Asked, ask-more, ask-stop, ask-never, ask-done}
 use Rattle.valid.proofs.arrival.each_stands_once.Statement.{statement}

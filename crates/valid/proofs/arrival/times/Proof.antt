@@ -9,8 +9,8 @@ use lib.Dec.{eqb}
 use borrow.Author.Needs.{needs}
 use Rattle.model.specs.Sizes.{tasks}
 use Rattle.model.specs.Lists.{occurrences}
-use Rattle.state.specs.Words.{kernel}
-use Rattle.queue.specs.Standing.{arrivals-long}
+use Rattle.model.specs.Words.{kernel}
+use Rattle.state.proofs.WordLaws.{arrivals-long}
 use Rattle.valid.specs.Arrivals.{times-more, times-end, one-or-none}
 use Rattle.valid.proofs.arrival.times.Statement.{statement}
 use Rattle.valid.proofs.arrival.times.Tie as tie

@@ -9,8 +9,8 @@ use lib.Dec.{eqb}
 use borrow.Author.Needs.{needs}
 use Rattle.model.specs.Sizes.{tasks}
 use Rattle.model.specs.Lists.{_!_, same, padded}
-use Rattle.state.specs.Words.{kernel}
-use Rattle.queue.specs.Standing.{arrivals-long}
+use Rattle.model.specs.Words.{kernel}
+use Rattle.state.proofs.WordLaws.{arrivals-long}
 use Rattle.valid.specs.Arrivals.{given, gapless, gapless-same, gap-stop, gap-more, gap-end}
 use Rattle.valid.proofs.arrival.zeros_last.Statement.{statement}
 use Rattle.valid.proofs.arrival.zeros_last.Tie as tie

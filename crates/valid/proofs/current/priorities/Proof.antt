@@ -3,7 +3,7 @@ use mathlib.Core.Path.{_≡_, _∙_, ap}
 use lib.ListN.{length}
 use borrow.Author.Needs.{needs}
 use Rattle.model.specs.World.{recompute}
-use Rattle.state.specs.Words.{kernel, sizes}
+use Rattle.model.specs.Words.{kernel, sizes}
 use Rattle.valid.specs.Currents.{afresh-same}
 use Rattle.valid.proofs.current.priorities.Statement.{statement}
 use Rattle.valid.proofs.current.priorities.Tie as tie

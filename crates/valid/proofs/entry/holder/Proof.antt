@@ -3,7 +3,7 @@ use mathlib.Core.Path.{_∙_, sym}
 use borrow.Author.Needs.{needs}
 use Rattle.model.specs.Sizes.{mutexes}
 use Rattle.model.proofs.NumberLaws.{mutex-there, mutex-none}
-use Rattle.state.specs.Words.{kernel}
+use Rattle.model.specs.Words.{kernel}
 use Rattle.valid.specs.Flags.{word-there, word-none}
 use Rattle.valid.proofs.entry.holder.Statement.{statement}
 use Rattle.valid.proofs.entry.holder.Tie as tie

@@ -3,7 +3,7 @@ use mathlib.Core.Path.{_∙_, sym}
 use borrow.Author.Needs.{needs}
 use Rattle.model.specs.Sizes.{buffers}
 use Rattle.model.proofs.NumberLaws.{buffer-there, buffer-none}
-use Rattle.state.specs.Words.{kernel}
+use Rattle.model.specs.Words.{kernel}
 use Rattle.valid.specs.Flags.{word-there, word-none}
 use Rattle.valid.proofs.entry.maxmsz.Statement.{statement}
 use Rattle.valid.proofs.entry.maxmsz.Tie as tie

@@ -6,7 +6,7 @@ use Rattle.model.specs.Facts.{queue, sending}
 use Rattle.model.specs.Number.{maybeTask}
 use Rattle.model.specs.World.{queueFront}
 use Rattle.model.proofs.NumberLaws.{task-is, task-is-none}
-use Rattle.state.specs.Words.{kernel}
+use Rattle.model.specs.Words.{kernel}
 use Rattle.valid.specs.Shown.{is-stored, nobody-sends, is-sent}
 use Rattle.valid.proofs.next.located.Statement.{statement}
 use Rattle.valid.proofs.next.located.Tie as tie

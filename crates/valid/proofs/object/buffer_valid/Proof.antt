@@ -1,7 +1,7 @@
 -- `buffer_valid` meets its contract: each test answers its own clause. Assumes nothing.
 use borrow.Author.Needs.{needs}
 use Rattle.model.proofs.FlagLaws.{asked-together}
-use Rattle.state.specs.Words.{kernel}
+use Rattle.model.specs.Words.{kernel}
 use Rattle.valid.specs.Check.{bufferTests}
 use Rattle.valid.proofs.object.buffer_valid.Statement.{statement}
 use Rattle.valid.proofs.object.buffer_valid.Tie as tie

@@ -9,7 +9,7 @@ use borrow.Author.Tests.{not-true, not-false}
 use Rattle.model.specs.Sizes.{blocks}
 use Rattle.model.specs.Lists.{all, countFrom}
 use Rattle.model.specs.Valid.{blockFlag}
-use Rattle.state.specs.Words.{kernel}
+use Rattle.model.specs.Words.{kernel}
 use Rattle.model.proofs.Loops.{Left, left-more, left-stop, left-done}
 use Rattle.valid.proofs.pool.flags_of.Statement.{statement}
 use Rattle.valid.proofs.pool.flags_of.Tie as tie

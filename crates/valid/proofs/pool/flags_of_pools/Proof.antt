@@ -10,7 +10,7 @@ use Rattle.model.specs.Sizes.{pools, blocks}
 use Rattle.model.specs.Lists.{all, countFrom}
 use Rattle.model.specs.Valid.{blockFlag}
 use Rattle.model.proofs.NumberLaws.{pool-there, pool-none}
-use Rattle.state.specs.Words.{kernel}
+use Rattle.model.specs.Words.{kernel}
 use Rattle.model.proofs.Loops.{Asked, ask-more, ask-stop, ask-never, ask-done}
 use Rattle.valid.proofs.pool.flags_of_pools.Statement.{statement}
 use Rattle.valid.proofs.pool.flags_of_pools.Tie as tie

@@ -10,7 +10,7 @@ use Rattle.model.specs.Sizes.{pools, poolBytes}
 use Rattle.model.specs.Lists.{_!_}
 use Rattle.model.specs.Refusal.{poolSum}
 use Rattle.model.proofs.NumberLaws.{pool-there, pool-none}
-use Rattle.state.specs.Words.{kernel}
+use Rattle.model.specs.Words.{kernel}
 use Rattle.valid.specs.Sums.{Adding, add-over, add-more, add-never, add-done}
 use Rattle.valid.proofs.pool.pools_fit.Statement.{statement}
 use Rattle.valid.proofs.pool.pools_fit.Tie as tie

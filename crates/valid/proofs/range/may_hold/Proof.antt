@@ -2,7 +2,7 @@
 use mathlib.Core.Path.{_∙_, sym}
 use borrow.Author.Needs.{needs}
 use Rattle.model.proofs.NumberLaws.{task-there, task-none}
-use Rattle.state.specs.Words.{kernel}
+use Rattle.model.specs.Words.{kernel}
 use Rattle.valid.specs.Flags.{places-long, hold-none, hold-nobody, hold-task}
 use Rattle.valid.proofs.range.may_hold.Statement.{statement}
 use Rattle.valid.proofs.range.may_hold.Tie as tie

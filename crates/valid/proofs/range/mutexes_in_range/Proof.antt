@@ -9,7 +9,7 @@ use borrow.Author.Tests.{not-true, not-false}
 use Rattle.model.specs.Sizes.{mutexes}
 use Rattle.model.specs.Valid.{mutexRange}
 use Rattle.model.proofs.NumberLaws.{mutex-there, mutex-none}
-use Rattle.state.specs.Words.{kernel}
+use Rattle.model.specs.Words.{kernel}
 use Rattle.model.proofs.Loops.{Asked, ask-more, ask-stop, ask-never, ask-done}
 use Rattle.valid.proofs.range.mutexes_in_range.Statement.{statement}
 use Rattle.valid.proofs.range.mutexes_in_range.Tie as tie

@@ -10,7 +10,7 @@ use borrow.Author.Tests.{eq-eqb, ne-eqb}
 use Rattle.model.specs.Lists.{_!_, upTo, firstWhere}
 use Rattle.model.specs.Kernel.{slot}
 use Rattle.model.specs.Refusal.{freeBlock}
-use Rattle.state.specs.Words.{kernel}
+use Rattle.model.specs.Words.{kernel}
 use Rattle.valid.specs.Waiters.{Searched, search-start, search-hit, search-more, search-end}
 use Rattle.valid.proofs.waiter.all_taken.Statement.{statement}
 use Rattle.valid.proofs.waiter.all_taken.Tie as tie

@@ -6,7 +6,7 @@ use Rattle.model.specs.Facts.{queue, sending}
 use Rattle.model.specs.Number.{maybeTask}
 use Rattle.model.specs.World.{queueFront}
 use Rattle.model.proofs.NumberLaws.{task-is, task-is-none}
-use Rattle.state.specs.Words.{kernel}
+use Rattle.model.specs.Words.{kernel}
 use Rattle.valid.specs.Waiters.{no-first, first-tested}
 use Rattle.valid.proofs.waiter.first_sender.Statement.{statement}
 use Rattle.valid.proofs.waiter.first_sender.Tie as tie

@@ -6,7 +6,7 @@ use borrow.Author.Needs.{needs}
 use Rattle.model.specs.Sizes.{pools}
 use Rattle.model.specs.Refusal.{freeBlock}
 use Rattle.model.proofs.NumberLaws.{pool-there, pool-none}
-use Rattle.state.specs.Words.{kernel}
+use Rattle.model.specs.Words.{kernel}
 use Rattle.valid.specs.Flags.{word-none}
 use Rattle.valid.specs.Waiters.{no-blocks}
 use Rattle.valid.proofs.waiter.none_free.Statement.{statement}

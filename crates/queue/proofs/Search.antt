@@ -17,10 +17,11 @@ use Rattle.model.specs.Queue.{insert, sorted}
 use Rattle.model.specs.Kernel.{Kernel, numbered, standsIn}
 use Rattle.model.proofs.ListLaws.{or-elim, or-left, or-right}
 use Rattle.model.proofs.NumberLaws.{numbered-at}
-use Rattle.queue.specs.Arrival.{member-select}
-use Rattle.queue.specs.Order.{member-insert, insert-less, insert-more}
-use Rattle.queue.specs.First.{better, pass}
-use Rattle.queue.specs.Standing.{stands-task}
+use Rattle.queue.proofs.ArrivalLaws.{member-select}
+use Rattle.queue.proofs.Order.{member-insert, insert-less, insert-more}
+use Rattle.queue.specs.Better.{better}
+use Rattle.queue.proofs.First.{pass}
+use Rattle.queue.proofs.Standing.{stands-task}
 
 module _ (p : ℕ → Bool) (a : List ℕ) (i : ℕ) where
   from-here : i < length a → select p (drop i a) ≡ keep (p (a ! i)) (a ! i) (select p (drop (i + 1) a))

@@ -16,9 +16,9 @@ use Rattle.model.specs.Kernel.{Kernel, standsIn, facts}
 use Rattle.model.specs.World.{queueFront, headsQueue}
 use Rattle.model.proofs.ListLaws.{or-left, member-middle}
 use Rattle.model.proofs.NumberLaws.{word-in-range}
-use Rattle.queue.specs.Arrival.{member-select}
-use Rattle.queue.specs.First.{First, sorted-first, first-unique, last-first}
-use Rattle.queue.specs.Standing.{stands-task}
+use Rattle.queue.proofs.ArrivalLaws.{member-select}
+use Rattle.queue.proofs.First.{First, sorted-first, first-unique, last-first}
+use Rattle.queue.proofs.Standing.{stands-task}
 
 module _ (k : Kernel) (q : Queue) where
   -- the queue's tasks as they arrived

@@ -12,18 +12,8 @@ use lib.Seq.{take-suc, drop-cons, getD-append-add, getD-drop, take-length, take-
 use lib.Dec.{eqb}
 use Rattle.model.specs.Lists.{_!_, keep, select, padded, zeros}
 use Rattle.model.specs.Kernel.{Kernel, others, departed, arrived, withArrivals}
-use Rattle.queue.specs.Arrival.{select-append, length-others, padded-is}
-
--- a number that is neither none nor the task
-abbrev pub other : ℕ → ℕ → Bool
-other t u = not (eqb u 0) && not (eqb u t)
-
--- one more place seen, with j places filled: its number is kept or passed over
-abbrev pub keptArrivals : ℕ → ℕ → ℕ → List ℕ → List ℕ
-keptArrivals t i j a = cond (other t (a ! i)) (set a j (a ! i)) a
-
-abbrev pub keptCount : ℕ → ℕ → ℕ → List ℕ → ℕ
-keptCount t i j a = cond (other t (a ! i)) (j + 1) j
+use Rattle.queue.specs.Arriving.{other, keptArrivals, keptCount}
+use Rattle.queue.proofs.ArrivalLaws.{select-append, length-others, padded-is}
 
 -- a store right behind a list, and behind all
 pub set-seam : (xs ys : List ℕ) (y v : ℕ) → set (xs ++ y ∷ ys) (length xs) v ≡ xs ++ v ∷ ys

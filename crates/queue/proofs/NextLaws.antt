@@ -18,9 +18,10 @@ use Rattle.model.specs.Queue.{searchReady, nextToRun}
 use Rattle.model.specs.Kernel.{Kernel, numbered, standsIn, facts}
 use Rattle.model.specs.World.{running}
 use Rattle.model.proofs.NumberLaws.{numbered-at, word-in-range, task-zero}
-use Rattle.state.specs.Words.{wordCount, kernel}
-use Rattle.queue.specs.NextToRun.{search-none, search-hit}
-use Rattle.queue.specs.Standing.{stands-task, and-left, arrivals-long}
+use Rattle.model.specs.Words.{wordCount, kernel}
+use Rattle.queue.proofs.NextToRun.{search-none, search-hit}
+use Rattle.queue.proofs.Standing.{stands-task, and-left}
+use Rattle.state.proofs.WordLaws.{arrivals-long}
 
 -- a number is a ready task's, at a priority
 abbrev pub readyAt : Kernel → ℕ → ℕ → Bool

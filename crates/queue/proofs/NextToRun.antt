@@ -12,7 +12,7 @@ use Rattle.model.specs.Lists.{_!_, countFrom, upTo, member, firstWhere, headOf}
 use Rattle.model.specs.Facts.{Facts, readyQueue, ready}
 use Rattle.model.specs.Queue.{byPriority, sorted, ordered, order, front, searchReady, nextToRun}
 use Rattle.model.proofs.ListLaws.{or-elim, or-left, or-right, member-left, member-right, member-middle}
-use Rattle.queue.specs.First.{First, sorted-first, first-unique}
+use Rattle.queue.proofs.First.{First, sorted-first, first-unique}
 
 -- What a search finds: nothing passes, or what is found passes and nothing before it does.
 pub record Found (p : ℕ → Bool) (ts : List ℕ) (t : ℕ) : Type 0 where

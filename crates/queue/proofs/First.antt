@@ -11,6 +11,7 @@ use borrow.Author.Tests.{leb-true, leb-false, ltb-true, ltb-false, eqb-true, eq-
 use Rattle.model.specs.Lists.{_!_, member, headOf}
 use Rattle.model.specs.Facts.{Facts, Queue}
 use Rattle.model.specs.Queue.{byPriority, insert, sorted, ordered, order, front}
+use Rattle.queue.specs.Better.{better}
 use Rattle.model.proofs.ListLaws.{or-elim, or-left, or-right, member-append, member-middle}
 
 module _ (current : List ℕ) where
@@ -93,10 +94,6 @@ module _ (current : List ℕ) where
 
   -- ---- the first found by one pass over the tasks as they arrived
 
-  -- the better of the best so far (0 for none) and one that arrived after it
-  abbrev pub better : ℕ → ℕ → ℕ
-  better b t = cond (eqb b 0) t (cond (ltb (current ! t) (current ! b)) t b)
-
   -- one more task that arrived after all the others
   pub last-first : (b t : ℕ) {ts : List ℕ} → First ts b → First (ts ++ t ∷ []) (cond (ltb (current ! t) (current ! b)) t b)
   last-first b t {ts} f = go (ltb (current ! t) (current ! b)) refl
@@ -127,7 +124,7 @@ module _ (current : List ℕ) where
           later u (inl q) = f .later u q
           later u (inr q) = last u (or-elim (eqb u t) false q)
 
-  better-first : (b t : ℕ) {ts : List ℕ} → b ≢ 0 → First ts b → First (ts ++ t ∷ []) (better b t)
+  better-first : (b t : ℕ) {ts : List ℕ} → b ≢ 0 → First ts b → First (ts ++ t ∷ []) (better current b t)
   better-first b t h f = rw (ne-eqb b 0 h) (last-first b t f)
 
   -- of the same tasks there is one first: of two, the later one would be more urgent than the earlier, and not
@@ -151,7 +148,7 @@ module _ (current : List ℕ) where
   first-unique {ts} {a} {b} f g =
       split-unique (f .before) (g .before) a b (f .behind) (g .behind) (sym (f .split) ∙ g .split) (f .earlier) (f .later) (g .earlier) (g .later)
 
-  better-there : (b t : ℕ) → b ≢ 0 → t ≢ 0 → better b t ≢ 0
+  better-there : (b t : ℕ) → b ≢ 0 → t ≢ 0 → better current b t ≢ 0
   better-there b t h k = rw (ne-eqb b 0 h) (go (ltb (current ! t) (current ! b)))
     where
       go : (c : Bool) → cond c t b ≢ 0
@@ -159,14 +156,14 @@ module _ (current : List ℕ) where
       go false = h
 
   -- the pass goes on from the first of those seen
-  pass-first : (b : ℕ) (ts us : List ℕ) → b ≢ 0 → ((u : ℕ) → member u us ≡ true → u ≢ 0) → First ts b → First (ts ++ us) (foldl better b us)
+  pass-first : (b : ℕ) (ts us : List ℕ) → b ≢ 0 → ((u : ℕ) → member u us ≡ true → u ≢ 0) → First ts b → First (ts ++ us) (foldl (better current) b us)
   pass-first b ts [] h n f = rw append-nil f
   pass-first b ts (u ∷ us) h n f =
-      subst (λ (l : List ℕ). First l (foldl better b (u ∷ us))) (append-assoc ts (u ∷ []) us)
-      (pass-first (better b u) (ts ++ u ∷ []) us (better-there b u h (n u (or-left (eqb u u) _ (eq-eqb u u refl)))) (λ w q. n w (or-right (eqb w u) _ q)) (better-first b u h f))
+      subst (λ (l : List ℕ). First l (foldl (better current) b (u ∷ us))) (append-assoc ts (u ∷ []) us)
+      (pass-first (better current b u) (ts ++ u ∷ []) us (better-there b u h (n u (or-left (eqb u u) _ (eq-eqb u u refl)))) (λ w q. n w (or-right (eqb w u) _ q)) (better-first b u h f))
 
   -- one pass over the tasks as they arrived finds the first of the queue by priority
-  pub pass : (ts : List ℕ) → ((u : ℕ) → member u ts ≡ true → u ≢ 0) → foldl better 0 ts ≡ headOf (sorted current ts)
+  pub pass : (ts : List ℕ) → ((u : ℕ) → member u ts ≡ true → u ≢ 0) → foldl (better current) 0 ts ≡ headOf (sorted current ts)
   pass [] n = refl
   pass (t ∷ ts) n =
       first-unique

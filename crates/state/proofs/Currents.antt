@@ -8,8 +8,9 @@ use lib.ListN.{length, take, drop, set, replicate, take-append-drop, drop-of-len
 use borrow.Author.Fill.{fill-more}
 use Rattle.model.specs.Sizes.{tasks}
 use Rattle.model.specs.Kernel.{Kernel, withTasks, withCurrent, withCurrents}
-use Rattle.state.specs.Words.{wordCount, sizes, fields, kernel, Represents, sized, size-of}
-use Rattle.model.specs.Field as field
+use Rattle.model.specs.Words.{wordCount, kernel}
+use Rattle.state.specs.Words.{Represents}
+use Rattle.state.proofs.WordLaws.{currents-long}
 
 -- the first n tasks have the number, the others what they had
 unfoldable pub filled : ℕ → ℕ → List ℕ → List ℕ
@@ -31,16 +32,12 @@ filled-all v [] h = absurd (omega arith)
 filled-all v (c ∷ cs) h = rw (drop-of-length-le cs {i = tasks} (omega arith))
 
 -- the words while they are filled
-pub record Filling (w u : List ℕ) (v n : ℕ) : Type 0 where
+pub record CurrentsFilled (w u : List ℕ) (v n : ℕ) : Type 0 where
   pub start : length w ≡ wordCount
   pub state : Represents u (withCurrents (kernel w) (filled n v (kernel w .tasks .current)))
   pub few : n ≤ tasks
 
-currents-long : (w : List ℕ) → length w ≡ wordCount → length (kernel w .tasks .current) ≡ suc tasks
-unfolding fields sizes
-currents-long w h = size-of (kernel w) (sized w h) field.current
-
-same-currents : (k : Kernel) → withCurrents k (k .tasks .current) ≡ k
+pub same-currents : (k : Kernel) → withCurrents k (k .tasks .current) ≡ k
 unfolding withCurrents withTasks
 same-currents k = refl
 
@@ -48,7 +45,7 @@ over : (k : Kernel) (cs : List ℕ) (i v : ℕ) → withCurrent (withCurrents k 
 unfolding withCurrents withCurrent withTasks
 over k cs i v = refl
 
-pub fill-start : (w : List ℕ) (v : ℕ) → length w ≡ wordCount → Filling w w v 0
+pub fill-start : (w : List ℕ) (v : ℕ) → length w ≡ wordCount → CurrentsFilled w w v 0
 fill-start w v h =
     record {
       start = h;
@@ -56,7 +53,7 @@ fill-start w v h =
       few = omega arith;
     }
 
-pub fill-step : (w u x : List ℕ) (v n : ℕ) → n < tasks → Filling w u v n → Represents x (withCurrent (kernel u) (n + 1) v) → Filling w x v (n + 1)
+pub fill-step : (w u x : List ℕ) (v n : ℕ) → n < tasks → CurrentsFilled w u v n → Represents x (withCurrent (kernel u) (n + 1) v) → CurrentsFilled w x v (n + 1)
 fill-step w u x v n h f r =
     record {
       start = f .start;
@@ -72,7 +69,7 @@ fill-step w u x v n h f r =
       few = omega arith;
     }
 
-pub fill-done : (w₀ w u : List ℕ) (v n : ℕ) → length w₀ ≡ wordCount → Represents w (withCurrent (kernel w₀) 0 0) → tasks ≤ n → Filling w u v n
+pub fill-done : (w₀ w u : List ℕ) (v n : ℕ) → length w₀ ≡ wordCount → Represents w (withCurrent (kernel w₀) 0 0) → tasks ≤ n → CurrentsFilled w u v n
     → Represents u (withCurrents (kernel w₀) (0 ∷ replicate tasks v))
 fill-done w₀ w u v n l r h f =
     record {

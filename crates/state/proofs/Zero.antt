@@ -9,8 +9,9 @@ use borrow.Author.Tests.{eq-eqb}
 use Rattle.model.specs.Lists.{_!_}
 use Rattle.model.specs.Valid.{lists}
 use Rattle.model.proofs.FlagLaws.{every, joinedFlags, joined-every}
-use Rattle.state.specs.Layout.{cut, offset, entry, read}
-use Rattle.state.specs.Words.{sizes}
+use Rattle.model.specs.Words.{cut, sizes}
+use Rattle.state.proofs.LayoutLaws.{offset, read}
+use Rattle.state.specs.Layout.{entry}
 
 -- every list as long as a list of its kind
 abbrev pub Long : ℕ → List (List ℕ) → Type 0

@@ -14,10 +14,11 @@ use Rattle.model.specs.Facts.{Facts, Queue, queue, ready, locking, sending, get
 use Rattle.model.specs.Queue.{byPriority}
 use Rattle.model.specs.Kernel.{Kernel, numbered, standsIn}
 use Rattle.model.proofs.NumberLaws.{Names, NamesNone, numbered-at, numbered-none}
-use Rattle.state.specs.Words.{wordCount, sizes, fields, kernel, sized, size-of}
+use Rattle.model.specs.Words.{wordCount, sizes, fields, kernel}
+use Rattle.state.proofs.WordLaws.{sized, size-of}
 use Rattle.model.specs.Field as field
-use Rattle.queue.specs.Arrival.{member-select}
-use Rattle.queue.specs.First.{better}
+use Rattle.queue.proofs.ArrivalLaws.{member-select}
+use Rattle.queue.specs.Better.{better}
 
 -- ---- entries
 
@@ -26,27 +27,6 @@ entry-there last xs u n r h e = e ∙ ap (λ (i : ℕ). xs ! i) (h .0) ∙ sym (
 
 pub entry-none : (last : ℕ) (xs : List ℕ) (u : ℕ) → length xs ≡ suc last → NamesNone last u → 0 ≡ numbered xs ! u
 entry-none last xs u n h = sym (numbered-none last xs u n h)
-
-module _ (w : List ℕ) (h : length w ≡ wordCount) where
-  pub currents-long : length (kernel w .tasks .current) ≡ suc tasks
-  unfolding fields sizes
-  currents-long = size-of (kernel w) (sized w h) field.current
-
-  pub mutexes-long : length (kernel w .mutexes .attribute) ≡ suc mutexes
-  unfolding fields sizes
-  mutexes-long = size-of (kernel w) (sized w h) field.mutexAttribute
-
-  pub buffers-long : length (kernel w .buffers .attribute) ≡ suc buffers
-  unfolding fields sizes
-  buffers-long = size-of (kernel w) (sized w h) field.bufferAttribute
-
-  pub pools-long : length (kernel w .pools .attribute) ≡ suc pools
-  unfolding fields sizes
-  pools-long = size-of (kernel w) (sized w h) field.poolAttribute
-
-  pub arrivals-long : length (kernel w .arrivals) ≡ tasks
-  unfolding fields sizes
-  arrivals-long = size-of (kernel w) (sized w h) field.arrivals
 
 -- ---- who stands in a queue
 

@@ -1,0 +1,10 @@
+pub mod ArrivalLaws
+pub mod First
+pub mod Gather
+pub mod Standing
+pub mod ArrivingLaws
+pub mod Order
+pub mod Search
+pub mod NextToRun
+pub mod NextLaws
+pub mod Fronts
