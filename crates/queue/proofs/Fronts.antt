@@ -14,6 +14,7 @@ use Rattle.model.specs.Facts.{Queue}
 use Rattle.model.specs.Queue.{byPriority, sorted, ordered, order, front, wouldHead}
 use Rattle.model.specs.Kernel.{Kernel, standsIn, facts}
 use Rattle.model.specs.World.{queueFront, headsQueue}
+use Rattle.model.specs.Valid.{From}
 use Rattle.model.proofs.ListLaws.{or-left, member-middle}
 use Rattle.model.proofs.NumberLaws.{word-in-range}
 use Rattle.queue.proofs.ArrivalLaws.{member-select}
@@ -63,6 +64,21 @@ module _ (k : Kernel) (q : Queue) where
       go : Someone (queueFront k q) → queueFront k q ≤ tasks
       go (inl h) = let e = h .1 in omega arith
       go (inr m) = task-of (queueFront k q) m .1
+
+  -- the front is a task that stands in the queue, or 0 where nobody does
+  pub front-stands : queueFront k q ≢ 0 → standsIn k q (queueFront k q) ≡ true
+  front-stands h = go front-someone
+    where
+      go : Someone (queueFront k q) → standsIn k q (queueFront k q) ≡ true
+      go (inl n) = absurd (h (n .1))
+      go (inr m) = member-select (standsIn k q) (queueFront k q) (k .arrivals) m .0
+
+  pub front-task : (queueFront k q ≡ 0) ⊎ From 1 tasks (queueFront k q)
+  front-task = go front-someone
+    where
+      go : Someone (queueFront k q) → (queueFront k q ≡ 0) ⊎ From 1 tasks (queueFront k q)
+      go (inl n) = inl (n .1)
+      go (inr m) = inr (task-of (queueFront k q) m)
 
   -- what is found by its word is the front
   pub front-found : (r : ℕ) → r ≡ queueFront k q → maybeTask (wordNumber r tasks) ≡ maybeTask (queueFront k q)

@@ -8,3 +8,4 @@ pub mod Search
 pub mod NextToRun
 pub mod NextLaws
 pub mod Fronts
+pub mod Running

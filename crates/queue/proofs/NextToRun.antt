@@ -22,7 +22,7 @@ pub record Found (p : ℕ → Bool) (ts : List ℕ) (t : ℕ) : Type 0 where
   pub passes : p t ≡ true
   pub earlier : (u : ℕ) → member u before ≡ true → p u ≡ false
 
-abbrev Outcome : (ℕ → Bool) → List ℕ → ℕ → Type 0
+abbrev pub Outcome : (ℕ → Bool) → List ℕ → ℕ → Type 0
 Outcome p ts t = (((u : ℕ) → member u ts ≡ true → p u ≡ false) × (t ≡ 0)) ⊎ Found p ts t
 
 pub firstWhere-finds : (p : ℕ → Bool) (ts : List ℕ) → Outcome p ts (firstWhere p ts)

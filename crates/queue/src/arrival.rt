@@ -1,7 +1,7 @@
 // The arrival order, changed in place. A task that arrives stands last and is taken from where it stood; nothing counts up, so the
 // order is never used up.
 use model::number::TaskNumber;
-use model::sizes::TASKS;
+use model::sizes::PLACES;
 use state::arrival::set_task;
 use state::arrival::task;
 ghost use mathlib.Core.Path.{_≡_};
@@ -14,8 +14,6 @@ ghost use Rattle.model.specs.Act.{arrive as arriving};
 ghost use Rattle.model.specs.Words.{wordCount, kernel};
 ghost use Rattle.state.specs.Words.{Represents};
 ghost use Rattle.queue.specs.Arriving.{Kept, Gathered, clearedFrom};
-
-const PLACES: usize = TASKS as usize;
 
 // One place of the order is seen, when j others have been found: its task is kept behind them, unless it is t or none.
 fn keep(state: &mut [u32], t: TaskNumber, i: usize, j: usize) -> usize

@@ -1,4 +1,7 @@
 // The first of any queue. A queue is named by the place that its tasks have and the number of the object that they wait for.
+use model::attribute::BY_ARRIVAL;
+use model::attribute::BY_PRIORITY;
+use model::attribute::PROTECTION;
 use model::number::BufferNumber;
 use model::number::MaybeBuffer;
 use model::number::MaybeMutex;
@@ -7,7 +10,7 @@ use model::number::MaybeTask;
 use model::number::MutexNumber;
 use model::number::PoolNumber;
 use model::number::TaskNumber;
-use model::sizes::TASKS;
+use model::sizes::PLACES;
 use state::arrival::task;
 use state::task::GETTING;
 use state::task::LOCKING;
@@ -24,8 +27,6 @@ ghost use Rattle.model.specs.Kernel.{facts, numbered, standsIn};
 ghost use Rattle.model.specs.World.{queueFront, headsQueue};
 ghost use Rattle.model.specs.Words.{wordCount, kernel};
 ghost use Rattle.queue.specs.Better.{better};
-
-pub(crate) const PLACES: usize = TASKS as usize;
 
 // Whether the task of a number stands in a queue; a number that is no task's stands nowhere.
 pub fn stands_in(state: &[u32], u: u32, place: u32, object: u32) -> bool
@@ -97,13 +98,13 @@ pub fn by_priority(state: &[u32], place: u32, object: u32) -> bool
         return true;
     }
     if place == LOCKING {
-        return 0 < mutex_attribute(state, object);
+        return BY_ARRIVAL < mutex_attribute(state, object);
     }
     if place == SENDING {
-        return buffer_attribute(state, object) == 1;
+        return buffer_attribute(state, object) == BY_PRIORITY;
     }
     if place == GETTING {
-        return pool_attribute(state, object) % 256 == 1;
+        return pool_attribute(state, object) % PROTECTION == BY_PRIORITY;
     }
     false
 }

@@ -1,9 +1,9 @@
 // The task that runs next.
-use super::front::PLACES;
 use super::front::current;
 use super::front::stands_in;
 use model::number::MaybeTask;
 use model::number::TaskNumber;
+use model::sizes::PLACES;
 use model::sizes::PRIORITIES;
 use state::arrival::task;
 use state::task::READY;

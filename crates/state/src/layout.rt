@@ -2,6 +2,7 @@
 use model::sizes::BLOCKS;
 use model::sizes::BUFFERS;
 use model::sizes::MUTEXES;
+use model::sizes::PLACES;
 use model::sizes::POOLS;
 use model::sizes::TASKS;
 ghost use mathlib.Core.Path.{_≡_};
@@ -13,7 +14,7 @@ ghost use Rattle.state.specs.Layout.{entry, withEntry};
 // How many words a field has: one for each number, and one for 0, which stands for none. The arrival order has a place for each task.
 pub(crate) const TASK_SLOTS: usize = TASKS as usize + 1;
 
-pub(crate) const ARRIVAL_SLOTS: usize = TASKS as usize;
+pub(crate) const ARRIVAL_SLOTS: usize = PLACES;
 
 pub(crate) const MUTEX_SLOTS: usize = MUTEXES as usize + 1;
 
