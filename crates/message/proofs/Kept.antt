@@ -9,7 +9,7 @@ use Rattle.model.specs.Sizes.{regionBytes}
 use Rattle.model.specs.Lists.{joined, zeros}
 use Rattle.model.specs.Message.{cost, packed, appended, oldestLength, oldest, removed}
 use Rattle.model.specs.Valid.{From, Layout}
-use Rattle.message.specs.Packing.{totalCost, regionOf}
+use Rattle.message.proofs.Contents.{totalCost, regionOf}
 use Rattle.message.proofs.Messages.{oldestLength-packed, oldest-packed, removed-packed}
 use Rattle.message.proofs.Regions.{length-joined, joined-more, totalCost-more, appended-behind}
 

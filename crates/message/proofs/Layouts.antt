@@ -14,7 +14,7 @@ use Rattle.model.specs.Lists.{joined, zeros, allZero, within}
 use Rattle.model.specs.Code.{bytes4, number4}
 use Rattle.model.specs.Message.{roundedUp, cost, packed, oldestLength, oldest}
 use Rattle.model.specs.Valid.{From, Layout, layout}
-use Rattle.message.specs.Packing.{totalCost}
+use Rattle.message.proofs.Contents.{totalCost}
 use Rattle.message.proofs.Messages.{length-packed, oldestLength-packed, behind-packed}
 use Rattle.message.proofs.Regions.{cost-above, length-joined, total-few}
 

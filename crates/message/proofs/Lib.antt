@@ -1,3 +1,4 @@
+pub mod Contents
 pub mod Parts
 pub mod Stores
 pub mod Packing

@@ -10,7 +10,7 @@ use borrow.Author.Tests.{ne-eqb}
 use Rattle.model.specs.Sizes.{regionBytes}
 use Rattle.model.specs.Lists.{joined, zeros}
 use Rattle.model.specs.Message.{cost, packed, appended, oldestLength, oldest, removed, over, overwritten}
-use Rattle.message.specs.Packing.{totalCost, regionOf, unpacked}
+use Rattle.message.proofs.Contents.{totalCost, regionOf, unpacked}
 use Rattle.message.proofs.Messages.{length-packed, oldestLength-packed, oldest-packed, behind-packed, removed-packed}
 
 -- ---- packed messages

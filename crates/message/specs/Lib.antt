@@ -1,3 +1,2 @@
 pub mod NextMessage
-pub mod Packing
 pub mod Parts

@@ -1,24 +1,18 @@
 // Words from bytes, and the verdict on a lent state that comes as bytes.
+use model::bytes::number4;
 use valid::is_valid;
 ghost use mathlib.Core.Path.{_≡_};
 ghost use Prim.Native.Nat.{_+_, _*_, _≤_};
 ghost use lib.ListN.{length};
-ghost use Rattle.model.specs.Code.{number4};
 ghost use Rattle.verdicts.specs.Words.{wordAt, wordsOf};
 ghost use Rattle.valid.specs.Lent.{isValid};
-
-fn number(a: u8, b: u8, c: u8, d: u8) -> u32
-    ensures { λ r. ⌜ r ≡ number4 a b c d ⌝ }
-{
-    a as u32 + b as u32 * 256 + c as u32 * 65536 + d as u32 * 16777216
-}
 
 // The word that begins at a place.
 pub(crate) fn word(bytes: &[u8], at: usize) -> u32
     requires { ⌜ at + 4 ≤ length (now bytes) ⌝ }
     ensures { λ r. ⌜ r ≡ wordAt (now (bytes .entry)) at ⌝ }
 {
-    number(bytes[at], bytes[at + 1], bytes[at + 2], bytes[at + 3])
+    number4(bytes[at], bytes[at + 1], bytes[at + 2], bytes[at + 3])
 }
 
 fn fill(words: &mut [u32], bytes: &[u8])

@@ -6,7 +6,8 @@ use mathlib.Core.Path.{_∙_, sym}
 use lib.ListN.{length}
 use borrow.Author.Needs.{needs}
 use Rattle.message.proofs.Stores.{Left, left-all, left-turn, left-none, sets-whole}
-use Rattle.verdicts.specs.Words.{wordsOf, length-wordsOf, wordsOf-entry}
+use Rattle.verdicts.specs.Words.{wordsOf}
+use Rattle.verdicts.proofs.WordLaws.{length-wordsOf, wordsOf-entry}
 use Rattle.verdicts.proofs.words.fill.Statement.{statement}
 use Rattle.verdicts.proofs.words.fill.Tie as tie
 

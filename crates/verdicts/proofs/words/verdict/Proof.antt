@@ -3,7 +3,7 @@ use Prim.Native.Nat.{ℕ}
 use native.Mathlib.Omega.{arith}
 use mathlib.Core.List.{List}
 use mathlib.Core.Path.{_∙_, ap}
-use Rattle.verdicts.specs.Words.{front}
+use Rattle.verdicts.proofs.WordLaws.{front}
 use Rattle.valid.specs.Lent.{isValid}
 use borrow.Author.Needs.{needs}
 use Rattle.verdicts.proofs.words.verdict.Statement.{statement}
