@@ -11,7 +11,7 @@ use Rattle.model.specs.Sizes.{tasks, priorities, mutexes, buffers, pools
 use Rattle.model.specs.Lists.{joined, _!_, countFrom, upTo, zeros, padded, sum, select, all, member, occurrences, same, allZero, implies, within}
 use Rattle.model.specs.Facts.{absent, dormant, ready, locking, sending, receiving, getting, ceilinged}
 use Rattle.model.specs.Priority.{effectives}
-use Rattle.model.specs.Kernel.{Kernel, facts, slot}
+use Rattle.model.specs.Kernel.{Kernel, Tasks, Mutexes, Buffers, Pools, facts, slot}
 use Rattle.model.specs.World.{Lent}
 use Rattle.model.specs.Message.{cost, packed, oldestLength, part, region}
 use Rattle.model.specs.Act.{firstFits}
@@ -37,19 +37,48 @@ bufferLists k = let x = k .buffers in x .exists ∷ x .attribute ∷ x .bufsz �
 abbrev pub poolLists : Kernel → List (List ℕ)
 poolLists k = let x = k .pools in x .exists ∷ x .attribute ∷ x .count ∷ x .size ∷ []
 
--- every list of a kind has an entry for each number, and one for none, which is zero
-abbrev pub Lists : ℕ → List (List ℕ) → Type 0
-Lists n [] = Unit
-Lists n (x ∷ xs) = (length x ≡ suc n) × (x ! 0 ≡ 0) × Lists n xs
+-- a list by number has an entry for each number, and one for none, which is zero
+pub record ByNumber (last : ℕ) (xs : List ℕ) : Type 0 where
+  pub long : length xs ≡ suc last
+  pub noneZero : xs ! 0 ≡ 0
+
+pub record TaskLists (x : Tasks) : Type 0 where
+  pub place : ByNumber tasks (x .place)
+  pub object : ByNumber tasks (x .object)
+  pub argument : ByNumber tasks (x .argument)
+  pub initial : ByNumber tasks (x .initial)
+  pub base : ByNumber tasks (x .base)
+  pub current : ByNumber tasks (x .current)
+  pub left : ByNumber tasks (x .left)
+
+pub record MutexLists (x : Mutexes) : Type 0 where
+  pub exists : ByNumber mutexes (x .exists)
+  pub attribute : ByNumber mutexes (x .attribute)
+  pub ceiling : ByNumber mutexes (x .ceiling)
+  pub holder : ByNumber mutexes (x .holder)
+
+pub record BufferLists (x : Buffers) : Type 0 where
+  pub exists : ByNumber buffers (x .exists)
+  pub attribute : ByNumber buffers (x .attribute)
+  pub bufsz : ByNumber buffers (x .bufsz)
+  pub maxmsz : ByNumber buffers (x .maxmsz)
+  pub used : ByNumber buffers (x .used)
+
+pub record PoolLists (x : Pools) : Type 0 where
+  pub exists : ByNumber pools (x .exists)
+  pub attribute : ByNumber pools (x .attribute)
+  pub count : ByNumber pools (x .count)
+  pub size : ByNumber pools (x .size)
 
 abbrev pub lists : ℕ → List (List ℕ) → Bool
 lists n = all (λ x. eqb (length x) (suc n) && eqb (x ! 0) 0)
 
 -- the lists that have no such entry, and "an area not exactly 1,024 or 512 bytes"
-abbrev pub Lengths : Lent → Type 0
-Lengths x =
-    (length (x .kernel .arrivals) ≡ tasks) × (length (x .kernel .pools .taken) ≡ suc pools * suc blocks)
-    × (length (x .store) ≡ storeBytes) × (length (x .outbox) ≡ outboxBytes)
+pub record Lengths (x : Lent) : Type 0 where
+  pub arrivals : length (x .kernel .arrivals) ≡ tasks
+  pub taken : length (x .kernel .pools .taken) ≡ suc pools * suc blocks
+  pub store : length (x .store) ≡ storeBytes
+  pub outbox : length (x .outbox) ≡ outboxBytes
 
 abbrev pub lengths : Lent → Bool
 lengths x =
@@ -267,10 +296,10 @@ outboxPart k outbox t = allZero (drop (k .tasks .argument ! t) (part messageByte
 -- ---- all clauses
 
 pub record Valid (x : Lent) : Type 0 where
-  pub isTaskLists : Lists tasks (taskLists (x .kernel))
-  pub isMutexLists : Lists mutexes (mutexLists (x .kernel))
-  pub isBufferLists : Lists buffers (bufferLists (x .kernel))
-  pub isPoolLists : Lists pools (poolLists (x .kernel))
+  pub isTaskLists : TaskLists (x .kernel .tasks)
+  pub isMutexLists : MutexLists (x .kernel .mutexes)
+  pub isBufferLists : BufferLists (x .kernel .buffers)
+  pub isPoolLists : PoolLists (x .kernel .pools)
   pub isLengths : Lengths x
   pub isTaskRange : Each tasks (TaskRange (x .kernel))
   pub isMutexRange : Each mutexes (MutexRange (x .kernel))

@@ -6,12 +6,12 @@ use mathlib.Core.Path.{_≡_, _∙_, refl, sym, ap}
 use mathlib.Core.Bool.{Bool, true, false, cond}
 use mathlib.Core.List.{List, [], _++_, append-assoc}
 use lib.ListN.{length, take, drop, length-append}
-use lib.Seq.{paste, paste-zero, length-paste, take-paste, drop-paste, take-length, drop-drop}
+use lib.Seq.{paste, paste-zero, length-paste, take-paste, drop-paste, take-length, take-all, drop-drop}
 use borrow.Author.Tests.{le-leb, lt-leb}
 use Rattle.model.specs.World.{Ended}
 use Rattle.model.specs.Log.{endedBytes, deliveryBytes}
 use Rattle.script.specs.Place.{room, placed, nextPlace, Appends}
-use Rattle.model.specs.Message.{over}
+use Rattle.model.specs.Message.{over, overwritten}
 use Rattle.script.specs.Item.{endedWith}
 
 -- the whole of the bytes, as a copy of their full length
@@ -92,11 +92,12 @@ module _ (area : List ℕ) (at : ℕ) where
 
 -- an append at the front of an area, as the definition of a record's log has it
 pub front : (area bytes after : List ℕ) (next : ℕ) → length bytes ≤ length area → Appends area 0 bytes after next
-    → (after ≡ bytes ++ drop (length bytes) area) × (next ≡ length bytes)
-unfolding over
+    → (after ≡ overwritten area 0 bytes) × (next ≡ length bytes)
+unfolding overwritten
 front area bytes after next h p =
-    let fits : 0 + length bytes ≤ length area = omega arith in (
-      p .area ∙ placed-room area 0 bytes fits ∙ ap (λ (n : ℕ). bytes ++ drop n area) (zero-add (length bytes)),
+    let fits : 0 + length bytes ≤ length area = omega arith in
+    let whole : length (over area 0 bytes) ≤ length area = omega (arith, length-over area 0 bytes fits) in (
+      p .area ∙ placed-room area 0 bytes fits ∙ sym (take-all (length area) (over area 0 bytes) whole),
       p .place ∙ next-room area 0 bytes fits ∙ zero-add (length bytes),
     )
 
