@@ -1,7 +1,7 @@
 -- The front of any queue of the kernel, as the searches find it, and who would head it. Assumes nothing.
 use Prim.Native.Nat.{ℕ, suc, _≤_, _<_}
 use native.Mathlib.Omega.{arith}
-use mathlib.Core.Path.{_≡_, _∙_, refl, sym, ap, subst}
+use mathlib.Core.Path.{_≡_, _∙_, refl, sym, ap, ap₂, subst}
 use mathlib.Core.Logic.{_≢_, _⊎_, inl, inr}
 use mathlib.Core.Bool.{Bool, true, false, cond}
 use mathlib.Core.List.{List, [], _∷_, _++_}
@@ -16,7 +16,10 @@ use Rattle.model.specs.Kernel.{Kernel, standsIn, facts}
 use Rattle.model.specs.World.{queueFront, headsQueue}
 use Rattle.model.specs.Valid.{From}
 use Rattle.model.proofs.ListLaws.{or-left, member-middle}
-use Rattle.model.proofs.NumberLaws.{word-in-range}
+use Rattle.model.specs.declared.number.TaskNumber.{TaskNumber}
+use Rattle.model.specs.declared.number.MaybeTask.{MaybeTask}
+use Rattle.model.specs.declared.number.MaybeTask as mTask
+use Rattle.model.proofs.NumberLaws.{word-in-range, task-is, task-is-none}
 use Rattle.queue.proofs.ArrivalLaws.{member-select}
 use Rattle.queue.proofs.First.{First, sorted-first, first-unique, last-first}
 use Rattle.queue.proofs.Standing.{stands-task}
@@ -161,3 +164,26 @@ module _ (k : Kernel) (q : Queue) where
 
   pub heads-by-arrival : (t : ℕ) → queueFront k q ≢ 0 → queueFront k q ≢ t → byPriority (facts k) q ≡ false → false ≡ headsQueue k q t
   heads-by-arrival t h d e = sym (heads-is t ∙ ap (λ (n : ℕ). eqb n t) (oldest-with t e h) ∙ ne-eqb (queueFront k q) t d)
+
+-- ---- the same by what the code has found: the first, its number a and the task's number b, and whether the order is by priority
+
+module _ (k : Kernel) (q : Queue) (t : ℕ) {f : MaybeTask} (is : f ≡ maybeTask (queueFront k q)) where
+  pub head-nobody : f ≡ mTask.the-variants.Nothing → true ≡ headsQueue k q t
+  head-nobody e = heads-empty k q t (task-is-none _ (sym is ∙ e))
+
+  module _ {u : TaskNumber} {a b : ℕ} (e : f ≡ mTask.the-variants.Task u) (x : a ≡ u .0) (y : b ≡ t) where
+    names : (u .0 ≡ queueFront k q) × (queueFront k q ≢ 0)
+    names = task-is _ _ (sym is ∙ e)
+
+    pub head-itself : a ≡ b → true ≡ headsQueue k q t
+    head-itself z = heads-itself k q t (names .1) (sym (names .0) ∙ sym x ∙ z ∙ y)
+
+    module _ (d : a ≡ b → ⊥) {p : Bool} (by : p ≡ byPriority (facts k) q) where
+      differs : queueFront k q ≢ t
+      differs z = d (x ∙ names .0 ∙ z ∙ sym y)
+
+      pub head-urgent : {m n : ℕ} → p ≡ true → m ≡ k .tasks .current ! t → n ≡ k .tasks .current ! (u .0) → ltb m n ≡ headsQueue k q t
+      head-urgent z i j = ap₂ ltb i (j ∙ ap (λ (v : ℕ). k .tasks .current ! v) (names .0)) ∙ heads-by-priority k q t (names .1) differs (sym by ∙ z)
+
+      pub head-arrived : p ≡ false → false ≡ headsQueue k q t
+      head-arrived z = heads-by-arrival k q t (names .1) differs (sym by ∙ z)

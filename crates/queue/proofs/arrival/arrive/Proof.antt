@@ -8,4 +8,4 @@ pub arrive-spec : {M : Type 1} → statement M
 arrive-spec =
     tie.close
     (tie.spec (λ c κs. search needs) (λ c κs. search needs) (λ c κs. search needs) (λ c. search needs)
-    λ c. arrives _ _ _ _ _ _ _ (c .before .before .before .before .before .before .before .before .before .before .set-place .ensures) (c .before .before .before .before .before .before .set-object .ensures) (c .before .before .rejoin .ensures))
+    λ c. search arrives)

@@ -8,4 +8,4 @@ pub rejoin-spec : {M : Type 1} → statement M
 rejoin-spec =
     tie.close
     (tie.spec (λ c κs. search needs) (λ c κs. search needs) (λ c κs. search needs) (λ c. search needs) (λ c κs. search needs) (λ c. search needs)
-    λ c. rejoins _ _ _ _ _ _ _ (c .before .before .before .before .before .before .before .before .before .before .before .gather .ensures) (c .before .before .before .before .before .before .before .word .ensures) (c .before .before .before .before .before .before .set-task .ensures) (c .before .before .clear .ensures))
+    λ c. search rejoins)

@@ -16,8 +16,9 @@ use Rattle.state.proofs.none.mutexes_zero.Tie as tie
 returns : tie.Need-returns
 unfolding kernel sizes fields fromFields
 returns c =
-    let w = c .before .before .before .before .before .args .state .now in
-    let long = size-of (kernel w) (sized w (c .before .before .before .before .before .pre)) in
+    let start = c .before .before .before .before .before in
+    let w = start .args .state .now in
+    let long = size-of (kernel w) (sized w (start .pre)) in
     rw (c .zero4 .ensures ∙ entry-zero w field.holder, c .before .zero3 .ensures ∙ entry-zero w field.ceiling, c .before .before .zero2 .ensures ∙ entry-zero w field.mutexAttribute, c .before .before .before .zero .ensures ∙ entry-zero w field.mutexExists) (told mutexes (mutexLists (kernel w)) (long field.mutexExists, (long field.mutexAttribute, (long field.ceiling, (long field.holder, tt)))))
 
 pub mutexes-zero-spec : {M : Type 1} → statement M

@@ -16,8 +16,9 @@ use Rattle.state.proofs.none.pools_zero.Tie as tie
 returns : tie.Need-returns
 unfolding kernel sizes fields fromFields
 returns c =
-    let w = c .before .before .before .before .before .args .state .now in
-    let long = size-of (kernel w) (sized w (c .before .before .before .before .before .pre)) in
+    let start = c .before .before .before .before .before in
+    let w = start .args .state .now in
+    let long = size-of (kernel w) (sized w (start .pre)) in
     rw (c .zero4 .ensures ∙ entry-zero w field.size, c .before .zero3 .ensures ∙ entry-zero w field.count, c .before .before .zero2 .ensures ∙ entry-zero w field.poolAttribute, c .before .before .before .zero .ensures ∙ entry-zero w field.poolExists) (told pools (poolLists (kernel w)) (long field.poolExists, (long field.poolAttribute, (long field.count, (long field.size, tt)))))
 
 pub pools-zero-spec : {M : Type 1} → statement M

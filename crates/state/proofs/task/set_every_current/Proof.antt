@@ -18,7 +18,7 @@ put-current-requires : tie.Need-put-current-requires Inv-loop μ-loop
 put-current-requires c κs = search needs
 
 loop-holds : tie.Need-loop-holds Inv-loop μ-loop
-loop-holds c = fill-start _ _ (c .before .before .put-current .ensures .length)
+loop-holds c = search fill-start
 
 add-put-current : tie.Need-add-put-current Inv-loop μ-loop
 add-put-current c = search needs
@@ -33,13 +33,13 @@ loop-less : tie.Need-loop-less Inv-loop μ-loop
 loop-less c = omega arith
 
 loop-again : tie.Need-loop-again Inv-loop μ-loop
-loop-again c = fill-step _ _ _ _ _ (c .before .before .before .before .loop-test .taken) (c .before .before .before .before .before .loop .inv) (c .before .before .put-current2 .ensures)
+loop-again c = search fill-step
 
 same-length : tie.Need-same-length Inv-loop μ-loop
 same-length c = c .before .loop .inv .state .length ∙ sym (c .before .before .before .before .before .before .before .pre)
 
 returns : tie.Need-returns Inv-loop μ-loop
-returns c = fill-done _ _ _ _ _ (c .before .before .before .before .before .before .before .pre) (c .before .before .before .before .put-current .ensures) (c .loop-test .left) (c .before .loop .inv)
+returns c = search fill-done
 
 pub set-every-current-spec : {M : Type 1} → statement M
 set-every-current-spec =
