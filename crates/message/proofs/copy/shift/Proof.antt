@@ -13,32 +13,11 @@ Inv-loop r₀ by count i₀ r i = (i ≤ count) × Moved by r₀ r i
 abbrev μ-loop : tie.MeasureT-loop
 μ-loop r₀ by count i₀ r i = count - i
 
-sub-count : tie.Need-sub-count Inv-loop μ-loop
-sub-count c = search needs
-
 loop-holds : tie.Need-loop-holds Inv-loop μ-loop
 loop-holds c = (omega arith, moved-none)
 
-add-r : tie.Need-add-r Inv-loop μ-loop
-add-r c = search needs
-
-slice-read-r : tie.Need-slice-read-r Inv-loop μ-loop
-slice-read-r c = search needs
-
-slice-write-r : tie.Need-slice-write-r Inv-loop μ-loop
-slice-write-r c = search needs
-
-add-i : tie.Need-add-i Inv-loop μ-loop
-add-i c = search needs
-
-loop-less : tie.Need-loop-less Inv-loop μ-loop
-loop-less c = search needs
-
 loop-again : tie.Need-loop-again Inv-loop μ-loop
 loop-again c = (omega arith, moved-turn (c .before .before .loop .inv .1) (omega arith))
-
-same-length : tie.Need-same-length Inv-loop μ-loop
-same-length c = search needs
 
 returns : tie.Need-returns Inv-loop μ-loop
 returns c = moved-all (c .before .loop .inv .1) (omega arith)
@@ -49,17 +28,5 @@ returns-2 c = rw (drop-of-length-le _ (c .if1 .left))
 pub shift-spec : {M : Type 1} → statement M
 shift-spec =
     tie.close
-    (tie.spec
-    Inv-loop
-    μ-loop
-    sub-count
-    loop-holds
-    add-r
-    slice-read-r
-    slice-write-r
-    add-i
-    loop-less
-    loop-again
-    same-length
-    returns
-    returns-2)
+    (tie.spec Inv-loop μ-loop (λ c. search needs) loop-holds (λ c. search needs) (λ c. search needs) (λ c. search needs) (λ c. search needs)
+    (λ c. search needs) loop-again (λ c. search needs) returns returns-2)

@@ -5,18 +5,6 @@ use Rattle.message.proofs.Packing.{padded-sets}
 use Rattle.message.proofs.outbox.fill.Statement.{statement}
 use Rattle.message.proofs.outbox.fill.Tie as tie
 
-least-requires : tie.Need-least-requires
-least-requires c κs = search needs
-
-copy-in-requires : tie.Need-copy-in-requires
-copy-in-requires c κs = search needs
-
-fill-zero-requires : tie.Need-fill-zero-requires
-fill-zero-requires c κs = search needs
-
-same-length : tie.Need-same-length
-same-length c = search needs
-
 returns : tie.Need-returns
 returns c =
     let a = c .before .before .before .before .before .before .before .before .before .before .before .args in
@@ -24,4 +12,4 @@ returns c =
 
 pub fill-spec : {M : Type 1} → statement M
 fill-spec =
-    tie.close (tie.spec least-requires copy-in-requires fill-zero-requires same-length returns)
+    tie.close (tie.spec (λ c κs. search needs) (λ c κs. search needs) (λ c κs. search needs) (λ c. search needs) returns)

@@ -4,15 +4,6 @@ use borrow.Author.Needs.{needs}
 use Rattle.message.proofs.outbox.move_to_store.Statement.{statement}
 use Rattle.message.proofs.outbox.move_to_store.Tie as tie
 
-outbox-message-requires : tie.Need-outbox-message-requires
-outbox-message-requires c κs = search needs
-
-store-append-requires : tie.Need-store-append-requires
-store-append-requires c κs = search needs
-
-same-length : tie.Need-same-length
-same-length c = search needs
-
 returns : tie.Need-returns
 returns c =
     let m = c .before .before .before .before .outbox-message .result in
@@ -20,4 +11,4 @@ returns c =
 
 pub move-to-store-spec : {M : Type 1} → statement M
 move-to-store-spec =
-    tie.close (tie.spec outbox-message-requires store-append-requires same-length returns)
+    tie.close (tie.spec (λ c κs. search needs) (λ c κs. search needs) (λ c. search needs) returns)

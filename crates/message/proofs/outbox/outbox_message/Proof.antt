@@ -7,27 +7,6 @@ use Rattle.message.proofs.Parts.{outbox-shown}
 use Rattle.message.proofs.outbox.outbox_message.Statement.{statement}
 use Rattle.message.proofs.outbox.outbox_message.Tie as tie
 
-outbox-part-requires : tie.Need-outbox-part-requires
-outbox-part-requires c κs = search needs
-
-sub-least : tie.Need-sub-least
-sub-least c = search needs
-
-least-requires : tie.Need-least-requires
-least-requires c κs = search needs
-
-add-e : tie.Need-add-e
-add-e c = search needs
-
-sub-result : tie.Need-sub-result
-sub-result c = search needs
-
-part-result-start : tie.Need-part-result-start
-part-result-start c = search needs
-
-part-result-end : tie.Need-part-result-end
-part-result-end c = search needs
-
 returns : tie.Need-returns
 returns c =
     let a = c .before .before .before .before .before .args in
@@ -40,12 +19,5 @@ returns c =
 pub outbox-message-spec : {M : Type 1} → statement M
 outbox-message-spec =
     tie.close
-    (tie.spec
-    outbox-part-requires
-    sub-least
-    least-requires
-    add-e
-    sub-result
-    part-result-start
-    part-result-end
-    returns)
+    (tie.spec (λ c κs. search needs) (λ c. search needs) (λ c κs. search needs) (λ c. search needs) (λ c. search needs) (λ c. search needs)
+    (λ c. search needs) returns)

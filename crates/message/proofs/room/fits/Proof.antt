@@ -5,9 +5,6 @@ use Rattle.model.specs.Message.{cost}
 use Rattle.message.proofs.room.fits.Statement.{statement}
 use Rattle.message.proofs.room.fits.Tie as tie
 
-cost-requires : tie.Need-cost-requires
-cost-requires c κs = search needs
-
 add-result : tie.Need-add-result
 unfolding cost
 add-result c = omega arith
@@ -16,4 +13,4 @@ returns : tie.Need-returns
 returns c = cc
 
 pub fits-spec : {M : Type 1} → statement M
-fits-spec = tie.close (tie.spec cost-requires add-result returns)
+fits-spec = tie.close (tie.spec (λ c κs. search needs) add-result returns)

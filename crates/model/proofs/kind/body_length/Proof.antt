@@ -30,12 +30,6 @@ beyond k low high =
 returns : tie.Need-returns
 returns c = sym (beyond _ (c .if1 .taken) (search needs))
 
-entry-requires : tie.Need-entry-requires
-entry-requires c κs = search needs
-
-cast-t6 : tie.Need-cast-t6
-cast-t6 c = search needs
-
 returns-2 : tie.Need-returns-2
 unfolding caseOf
 returns-2 c =
@@ -47,4 +41,4 @@ returns-3 c =
     sym (within (c .before .before .before .args .kind) (search needs) ∙ ap caseOf (sym (c .before .entry .ensures)) ∙ rw (ne-eqb _ _ (c .if2 .left), caseOf))
 
 pub body-length-spec : {M : Type 1} → statement M
-body-length-spec = tie.close (tie.spec returns entry-requires cast-t6 returns-2 returns-3)
+body-length-spec = tie.close (tie.spec returns (λ c κs. search needs) (λ c. search needs) returns-2 returns-3)

@@ -10,9 +10,6 @@ use Rattle.model.proofs.Table.{agree-from-0}
 use Rattle.model.proofs.kind.entry.Statement.{statement}
 use Rattle.model.proofs.kind.entry.Tie as tie
 
-array-read-result : tie.Need-array-read-result
-array-read-result c = search needs
-
 bodies : List ℕ
 bodies = map (λ (k : ℕ). bodyEntry (bodyLength k)) (countFrom 0 65)
 
@@ -21,4 +18,4 @@ unfolding kinds rowOf bodyLength bodies
 returns c = agree-from-0 (λ (k : ℕ). getD bodies k 0) (λ (k : ℕ). bodyEntry (bodyLength k)) 65 (c .args .kind) refl (c .pre)
 
 pub entry-spec : {M : Type 1} → statement M
-entry-spec = tie.close (tie.spec array-read-result returns)
+entry-spec = tie.close (tie.spec (λ c. search needs) returns)

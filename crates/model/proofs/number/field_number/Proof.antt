@@ -32,9 +32,6 @@ fits (negsuc n) e h = absurd (true≢false e)
 cast-word-number : tie.Need-cast-word-number
 cast-word-number c = rw (toZ-ofZ (c .before .fits .n)) (fits (c .before .args .n) (rw (toZ-ofZ (c .before .fits .n)) at (c .if1 .left)) (c .before .fits .n))
 
-word-number-requires : tie.Need-word-number-requires
-word-number-requires c κs = search needs
-
 returns : tie.Need-returns
 returns c = below (c .before .args .n) (c .before .args .last) (rw (toZ-ofZ (c .before .fits .n)) at (c .if1 .taken))
 
@@ -44,4 +41,4 @@ returns-2 c =
     c .word-number .ensures ∙ rw e (above (c .before .before .args .n) (c .before .before .args .last) (rw e at (c .before .if1 .left)))
 
 pub field-number-spec : {M : Type 1} → statement M
-field-number-spec = tie.close (tie.spec cast-word-number word-number-requires returns returns-2)
+field-number-spec = tie.close (tie.spec cast-word-number (λ c κs. search needs) returns returns-2)

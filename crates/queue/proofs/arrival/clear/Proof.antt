@@ -20,9 +20,6 @@ loop-holds c = clear-start _ _ (c .before .pre)
 set-task-requires : tie.Need-set-task-requires Inv-loop μ-loop
 set-task-requires c κs = c .before .before .loop .inv .state .length
 
-add-i : tie.Need-add-i Inv-loop μ-loop
-add-i c = search needs
-
 loop-less : tie.Need-loop-less Inv-loop μ-loop
 loop-less c = omega arith
 
@@ -36,4 +33,4 @@ returns : tie.Need-returns Inv-loop μ-loop
 returns c = clear-done _ _ _ _ (c .loop-test .left) (c .before .loop .inv)
 
 pub clear-spec : {M : Type 1} → statement M
-clear-spec = tie.close (tie.spec Inv-loop μ-loop loop-holds set-task-requires add-i loop-less loop-again same-length returns)
+clear-spec = tie.close (tie.spec Inv-loop μ-loop loop-holds set-task-requires (λ c. search needs) loop-less loop-again same-length returns)

@@ -25,9 +25,6 @@ loop-holds c = gather-start _ _ (c .before .pre)
 keep-requires : tie.Need-keep-requires Inv-loop μ-loop
 keep-requires c κs = let g = c .before .before .loop .inv in (g .state .length, (let f = g .few in let w = g .within in omega arith))
 
-add-i : tie.Need-add-i Inv-loop μ-loop
-add-i c = search needs
-
 loop-less : tie.Need-loop-less Inv-loop μ-loop
 loop-less c = omega arith
 
@@ -41,4 +38,4 @@ returns : tie.Need-returns Inv-loop μ-loop
 returns c = gather-done _ _ _ _ _ (c .loop-test .left) (c .before .loop .inv)
 
 pub gather-spec : {M : Type 1} → statement M
-gather-spec = tie.close (tie.spec Inv-loop μ-loop loop-holds keep-requires add-i loop-less loop-again same-length returns)
+gather-spec = tie.close (tie.spec Inv-loop μ-loop loop-holds keep-requires (λ c. search needs) loop-less loop-again same-length returns)

@@ -5,34 +5,13 @@ use Rattle.queue.proofs.ArrivingLaws.{kept-none, kept-itself, kept-othe
 use Rattle.queue.proofs.arrival.keep.Statement.{statement}
 use Rattle.queue.proofs.arrival.keep.Tie as tie
 
-task-requires : tie.Need-task-requires
-task-requires c κs = search needs
-
-same-length : tie.Need-same-length
-same-length c = search needs
-
 returns : tie.Need-returns
 returns c = kept-none _ _ _ _ (c .before .before .before .before .pre .0) _ (c .before .task .ensures) (c .if1 .taken)
-
-word-requires : tie.Need-word-requires
-word-requires c κs = search needs
-
-same-length-2 : tie.Need-same-length-2
-same-length-2 c = search needs
 
 returns-2 : tie.Need-returns-2
 returns-2 c =
     kept-itself _ _ _ _ (c .before .before .before .before .before .before .pre .0) _ (c .before .before .before .task .ensures)
     (c .if2 .taken ∙ c .before .word .ensures)
-
-set-task-requires : tie.Need-set-task-requires
-set-task-requires c κs = search needs
-
-add-result : tie.Need-add-result
-add-result c = search needs
-
-same-length-3 : tie.Need-same-length-3
-same-length-3 c = search needs
 
 returns-3 : tie.Need-returns-3
 returns-3 c =
@@ -43,14 +22,5 @@ returns-3 c =
 pub keep-spec : {M : Type 1} → statement M
 keep-spec =
     tie.close
-    (tie.spec
-    task-requires
-    same-length
-    returns
-    word-requires
-    same-length-2
-    returns-2
-    set-task-requires
-    add-result
-    same-length-3
-    returns-3)
+    (tie.spec (λ c κs. search needs) (λ c. search needs) returns (λ c κs. search needs) (λ c. search needs) returns-2 (λ c κs. search needs)
+    (λ c. search needs) (λ c. search needs) returns-3)

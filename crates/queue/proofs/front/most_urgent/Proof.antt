@@ -29,15 +29,6 @@ abbrev μ-loop : tie.MeasureT-loop
 loop-holds : tie.Need-loop-holds Inv-loop μ-loop
 loop-holds c = (refl, omega arith)
 
-task-requires : tie.Need-task-requires Inv-loop μ-loop
-task-requires c κs = search needs
-
-best-with-requires : tie.Need-best-with-requires Inv-loop μ-loop
-best-with-requires c κs = search needs
-
-add-i : tie.Need-add-i Inv-loop μ-loop
-add-i c = search needs
-
 loop-less : tie.Need-loop-less Inv-loop μ-loop
 loop-less c = omega arith
 
@@ -65,4 +56,4 @@ returns c =
     ∙ best-of-all k q
 
 pub most-urgent-spec : {M : Type 1} → statement M
-most-urgent-spec = tie.close (tie.spec Inv-loop μ-loop loop-holds task-requires best-with-requires add-i loop-less loop-again returns)
+most-urgent-spec = tie.close (tie.spec Inv-loop μ-loop loop-holds (λ c κs. search needs) (λ c κs. search needs) (λ c. search needs) loop-less loop-again returns)

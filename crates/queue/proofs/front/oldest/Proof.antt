@@ -27,12 +27,6 @@ abbrev μ-loop : tie.MeasureT-loop
 loop-holds : tie.Need-loop-holds Inv-loop μ-loop
 loop-holds c = (refl, omega arith)
 
-task-requires : tie.Need-task-requires Inv-loop μ-loop
-task-requires c κs = search needs
-
-stands-in-requires : tie.Need-stands-in-requires Inv-loop μ-loop
-stands-in-requires c κs = search needs
-
 returns : tie.Need-returns Inv-loop μ-loop
 returns c =
     let a = c .before .before .before .before .before .before .args in
@@ -40,9 +34,6 @@ returns c =
     let e = c .before .before .task .ensures in
     let s = ap (standsIn k (queue (a .place) (a .object))) (sym e) ∙ sym (c .before .stands-in .ensures) ∙ c .if1 .taken in
     e ∙ sym (c .before .before .before .before .loop .inv .0 ∙ first-hit (standsIn k (queue (a .place) (a .object))) (k .arrivals) (c .before .before .before .before .loop .i) (omega (arith, arrivals-long (a .state .now) (c .before .before .before .before .before .before .pre))) s)
-
-add-i : tie.Need-add-i Inv-loop μ-loop
-add-i c = search needs
 
 loop-less : tie.Need-loop-less Inv-loop μ-loop
 loop-less c = omega arith
@@ -61,4 +52,4 @@ returns-2 c =
     sym (c .before .loop .inv .0 ∙ ap headOf (nobody-left (standsIn k (queue (a .place) (a .object))) (k .arrivals) (c .before .loop .i) (omega (arith, arrivals-long (a .state .now) (c .before .before .before .pre)))))
 
 pub oldest-spec : {M : Type 1} → statement M
-oldest-spec = tie.close (tie.spec Inv-loop μ-loop loop-holds task-requires stands-in-requires returns add-i loop-less loop-again returns-2)
+oldest-spec = tie.close (tie.spec Inv-loop μ-loop loop-holds (λ c κs. search needs) (λ c κs. search needs) returns (λ c. search needs) loop-less loop-again returns-2)

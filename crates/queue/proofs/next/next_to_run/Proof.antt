@@ -27,18 +27,6 @@ search-holds c = (refl, search-start _ (c .before .pre))
 loop-holds : tie.Need-loop-holds Inv-loop μ-loop Inv-search μ-search
 loop-holds c = (c .before .search .inv .0, look-start _ _ (c .search-test .taken) (c .before .search .inv .1))
 
-task-requires : tie.Need-task-requires Inv-loop μ-loop Inv-search μ-search
-task-requires c κs = search needs
-
-ready-at-requires : tie.Need-ready-at-requires Inv-loop μ-loop Inv-search μ-search
-ready-at-requires c κs = search needs
-
-from-word-requires : tie.Need-from-word-requires Inv-loop μ-loop Inv-search μ-search
-from-word-requires c κs = search needs
-
-add-i : tie.Need-add-i Inv-loop μ-loop Inv-search μ-search
-add-i c = search needs
-
 loop-less : tie.Need-loop-less Inv-loop μ-loop Inv-search μ-search
 loop-less c = omega arith
 
@@ -46,9 +34,6 @@ loop-again : tie.Need-loop-again Inv-loop μ-loop Inv-search μ-search
 loop-again c =
     let l = c .before .before .before .before .loop .inv in
     (l .0, look-more _ _ _ (l .1) (c .before .before .before .loop-test .taken) _ (c .before .before .task .ensures) (sym (c .before .ready-at .ensures) ∙ c .if1 .left))
-
-add-p : tie.Need-add-p Inv-loop μ-loop Inv-search μ-search
-add-p c = search needs
 
 search-less : tie.Need-search-less Inv-loop μ-loop Inv-search μ-search
 search-less c = let h = c .before .loop .inv .1 .inside in omega arith
@@ -67,21 +52,5 @@ returns-2 c =
 pub next-to-run-spec : {M : Type 1} → statement M
 next-to-run-spec =
     tie.close
-    (tie.spec
-    Inv-loop
-    μ-loop
-    Inv-search
-    μ-search
-    search-holds
-    loop-holds
-    task-requires
-    ready-at-requires
-    from-word-requires
-    add-i
-    loop-less
-    loop-again
-    add-p
-    search-less
-    search-again
-    returns
-    returns-2)
+    (tie.spec Inv-loop μ-loop Inv-search μ-search search-holds loop-holds (λ c κs. search needs) (λ c κs. search needs) (λ c κs. search needs)
+    (λ c. search needs) loop-less loop-again (λ c. search needs) search-less search-again returns returns-2)

@@ -40,15 +40,6 @@ kind c = c .before .before .before .before .args .kind
 known : (c : tie.After-known-told) → bodyLength (kind c) ≡ Bytes (c .before .length .given .0 .0)
 known c = sym (c .before .before .before .body-length .ensures) ∙ c .before .length .given .1
 
-body-length-requires : tie.Need-body-length-requires
-body-length-requires c κs = search needs
-
-enum-known-length : tie.Need-enum-known-length
-enum-known-length c = search needs
-
-enum-told : tie.Need-enum-told
-enum-told c = search needs
-
 returns : tie.Need-returns
 returns c =
     sym (no-parts _ (unknown-row _ (sym (c .before .before .body-length .ensures) ∙ c .enum-told .given .1)))
@@ -65,4 +56,4 @@ returns-3 c = rw sub-zero at (split (kind (c .before)) _ 0 (known (c .before)) (
 pub body-parts-spec : {M : Type 1} → statement M
 body-parts-spec =
     tie.close
-    (tie.spec body-length-requires enum-known-length enum-told returns sub-t6 returns-2 returns-3)
+    (tie.spec (λ c κs. search needs) (λ c. search needs) (λ c. search needs) returns sub-t6 returns-2 returns-3)

@@ -23,36 +23,6 @@ module _ (body : List ℕ) (i : ℕ) (h : length body / 4 < i) where
 returns : tie.Need-returns
 returns c = beyond (c .before .before .args .body .now) (c .before .before .args .i) (c .if1 .taken)
 
-mul-at : tie.Need-mul-at
-mul-at c = search needs
-
-byte-requires : tie.Need-byte-requires
-byte-requires c κs = search needs
-
-add-byte : tie.Need-add-byte
-add-byte c = search needs
-
-byte-requires-2 : tie.Need-byte-requires-2
-byte-requires-2 c κs = search needs
-
-add-byte-2 : tie.Need-add-byte-2
-add-byte-2 c = search needs
-
-byte-requires-3 : tie.Need-byte-requires-3
-byte-requires-3 c κs = search needs
-
-add-byte-3 : tie.Need-add-byte-3
-add-byte-3 c = search needs
-
-byte-requires-4 : tie.Need-byte-requires-4
-byte-requires-4 c κs = search needs
-
-number4-requires : tie.Need-number4-requires
-number4-requires c κs = search needs
-
-signed-number-requires : tie.Need-signed-number-requires
-signed-number-requires c κs = search needs
-
 returns-2 : tie.Need-returns-2
 unfolding field
 returns-2 c = rw (read-back (c .signed-number .result) (c .signed-number .ok)) (cc)
@@ -60,16 +30,5 @@ returns-2 c = rw (read-back (c .signed-number .result) (c .signed-number .ok)) (
 pub field-spec : {M : Type 1} → statement M
 field-spec =
     tie.close
-    (tie.spec
-    returns
-    mul-at
-    byte-requires
-    add-byte
-    byte-requires-2
-    add-byte-2
-    byte-requires-3
-    add-byte-3
-    byte-requires-4
-    number4-requires
-    signed-number-requires
-    returns-2)
+    (tie.spec returns (λ c. search needs) (λ c κs. search needs) (λ c. search needs) (λ c κs. search needs) (λ c. search needs)
+    (λ c κs. search needs) (λ c. search needs) (λ c κs. search needs) (λ c κs. search needs) (λ c κs. search needs) returns-2)

@@ -6,14 +6,8 @@ use Rattle.model.specs.Code.{bits, bytes4}
 use Rattle.script.proofs.field.field_bytes.Statement.{statement}
 use Rattle.script.proofs.field.field_bytes.Tie as tie
 
-bits-of-requires : tie.Need-bits-of-requires
-bits-of-requires c κs = search needs
-
-number-bytes-requires : tie.Need-number-bytes-requires
-number-bytes-requires c κs = search needs
-
 returns : tie.Need-returns
 returns c = c .number-bytes .ensures ∙ ap bytes4 (c .before .bits-of .ensures ∙ ap bits (toZ-ofZ (c .before .before .fits .z)))
 
 pub field-bytes-spec : {M : Type 1} → statement M
-field-bytes-spec = tie.close (tie.spec bits-of-requires number-bytes-requires returns)
+field-bytes-spec = tie.close (tie.spec (λ c κs. search needs) (λ c κs. search needs) returns)

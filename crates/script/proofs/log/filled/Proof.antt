@@ -8,19 +8,10 @@ use Rattle.script.proofs.Padding.{padded-placed}
 use Rattle.script.proofs.log.filled.Statement.{statement}
 use Rattle.script.proofs.log.filled.Tie as tie
 
-slice-aggregate-put : tie.Need-slice-aggregate-put
-slice-aggregate-put c = search needs
-
-part-requires : tie.Need-part-requires
-part-requires c κs = search needs
-
-put-requires : tie.Need-put-requires
-put-requires c κs = search needs
-
 returns : tie.Need-returns
 returns c =
     let m = c .before .before .before .before .before .args .message .now in
     c .before .put .ensures .area ∙ ap (placed (zeros messageBytes) 0) (c .before .before .part .ensures) ∙ padded-placed messageBytes m
 
 pub filled-spec : {M : Type 1} → statement M
-filled-spec = tie.close (tie.spec slice-aggregate-put part-requires put-requires returns)
+filled-spec = tie.close (tie.spec (λ c. search needs) (λ c κs. search needs) (λ c κs. search needs) returns)

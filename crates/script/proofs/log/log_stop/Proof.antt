@@ -3,31 +3,10 @@ use borrow.Author.Needs.{needs}
 use Rattle.script.proofs.log.log_stop.Statement.{statement}
 use Rattle.script.proofs.log.log_stop.Tie as tie
 
-slice-aggregate-put-two : tie.Need-slice-aggregate-put-two
-slice-aggregate-put-two c = search needs
-
-number-bytes-requires : tie.Need-number-bytes-requires
-number-bytes-requires c κs = search needs
-
-slice-aggregate-put-two-2 : tie.Need-slice-aggregate-put-two-2
-slice-aggregate-put-two-2 c = search needs
-
-put-two-requires : tie.Need-put-two-requires
-put-two-requires c κs = search needs
-
-same-length : tie.Need-same-length
-same-length c = search needs
-
 returns : tie.Need-returns
 returns c = rw (c .before .before .before .before .number-bytes .ensures) at (c .before .before .put-two .ensures)
 
 pub log-stop-spec : {M : Type 1} → statement M
 log-stop-spec =
     tie.close
-    (tie.spec
-    slice-aggregate-put-two
-    number-bytes-requires
-    slice-aggregate-put-two-2
-    put-two-requires
-    same-length
-    returns)
+    (tie.spec (λ c. search needs) (λ c κs. search needs) (λ c. search needs) (λ c κs. search needs) (λ c. search needs) returns)

@@ -18,9 +18,6 @@ Inv-loop area₀ at bytes i₀ area i = (area ≡ paste area₀ at bytes i) × (
 abbrev μ-loop : tie.MeasureT-loop
 μ-loop area₀ at bytes i₀ area i = length bytes - i
 
-room-requires : tie.Need-room-requires Inv-loop μ-loop
-room-requires c κs = search needs
-
 returns : tie.Need-returns Inv-loop μ-loop
 returns c = left-out _ _ _ (leb-false _ _ (sym (c .before .room .ensures) ∙ not-true _ (c .if1 .taken)))
 
@@ -29,9 +26,6 @@ loop-holds c =
     let a = c .before .before .before .before .args in
     let fits = leb-true _ _ (sym (c .before .room .ensures) ∙ not-false _ (c .if1 .left)) in
     (paste-zero (a .area .now) (a .at) (a .bytes .now), search needs, fits)
-
-shared-slice-read-area : tie.Need-shared-slice-read-area Inv-loop μ-loop
-shared-slice-read-area c = search needs
 
 -- the area in a turn, and after the loop
 length-inv : (area area₀ bytes : List ℕ) (at i : ℕ) → area ≡ paste area₀ at bytes i → i ≤ length bytes → at + length bytes ≤ length area₀
@@ -44,12 +38,6 @@ add-area c = omega (arith, c .before .before .before .before .before .before .be
 slice-write-area : tie.Need-slice-write-area Inv-loop μ-loop
 slice-write-area c = let v = c .before .before .loop .inv in omega (arith, length-inv _ _ _ _ _ (v .0) (v .1) (v .2))
 
-add-i : tie.Need-add-i Inv-loop μ-loop
-add-i c = search needs
-
-loop-less : tie.Need-loop-less Inv-loop μ-loop
-loop-less c = search needs
-
 loop-again : tie.Need-loop-again Inv-loop μ-loop
 loop-again c =
     let a = c .before .before .before .before .before .before .before .args in
@@ -60,9 +48,6 @@ loop-again c =
       omega arith,
       l .inv .2,
     )
-
-add-result : tie.Need-add-result Inv-loop μ-loop
-add-result c = search needs
 
 same-length : tie.Need-same-length Inv-loop μ-loop
 same-length c = let v = c .before .loop .inv in length-inv _ _ _ _ _ (v .0) (v .1) (v .2)
@@ -78,18 +63,5 @@ returns-2 c =
 pub put-spec : {M : Type 1} → statement M
 put-spec =
     tie.close
-    (tie.spec
-    Inv-loop
-    μ-loop
-    room-requires
-    returns
-    loop-holds
-    shared-slice-read-area
-    add-area
-    slice-write-area
-    add-i
-    loop-less
-    loop-again
-    add-result
-    same-length
-    returns-2)
+    (tie.spec Inv-loop μ-loop (λ c κs. search needs) returns loop-holds (λ c. search needs) add-area slice-write-area (λ c. search needs)
+    (λ c. search needs) loop-again (λ c. search needs) same-length returns-2)

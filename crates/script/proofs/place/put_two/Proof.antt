@@ -9,26 +9,11 @@ use Rattle.script.proofs.Appending.{left-out, two}
 use Rattle.script.proofs.place.put_two.Statement.{statement}
 use Rattle.script.proofs.place.put_two.Tie as tie
 
-add-room : tie.Need-add-room
-add-room c = search needs
-
-room-requires : tie.Need-room-requires
-room-requires c κs = search needs
-
 returns : tie.Need-returns
 returns c =
     let a = c .before .before .before .before .before .args in
     left-out (a .area .now) (a .at) _
     (simp length-append (leb-false _ _ (sym (c .before .room .ensures) ∙ not-true _ (c .if1 .taken))))
-
-put-requires : tie.Need-put-requires
-put-requires c κs = search needs
-
-put-requires-2 : tie.Need-put-requires-2
-put-requires-2 c κs = search needs
-
-same-length : tie.Need-same-length
-same-length c = search needs
 
 returns-2 : tie.Need-returns-2
 returns-2 c =
@@ -43,4 +28,4 @@ returns-2 c =
 pub put-two-spec : {M : Type 1} → statement M
 put-two-spec =
     tie.close
-    (tie.spec add-room room-requires returns put-requires put-requires-2 same-length returns-2)
+    (tie.spec (λ c. search needs) (λ c κs. search needs) returns (λ c κs. search needs) (λ c κs. search needs) (λ c. search needs) returns-2)

@@ -13,9 +13,6 @@ module _ (s : tie.Start) where
   arm : (k : ℕ) → s .args .kind ≡ k → callIn fromBuffers k (three-back (s .args .a) (s .args .b) (s .args .c)) ≡ callIn fromBuffers (s .args .kind) (s .args .a ∷ s .args .b ∷ s .args .c ∷ [])
   arm = named fromBuffers (s .args .kind) (s .fits .a) (s .fits .b) (s .fits .c)
 
-pool-call-requires : tie.Need-pool-call-requires
-pool-call-requires c κs = search needs
-
 returns : tie.Need-returns
 unfolding callIn kinds fromMutexes fromBuffers fromPools
 returns c = arm (c .before) 0x20 (c .match .keys1)
@@ -40,4 +37,4 @@ returns-5 c =
     others fromBuffers (s .args .kind) (s .fits .a) (s .fits .b) (s .fits .c) 4 (q .0 .0 .0 .1, (q .0 .0 .1, (q .0 .1, (q .1, tt)))) _ (c .pool-call .ensures)
 
 pub buffer-call-spec : {M : Type 1} → statement M
-buffer-call-spec = tie.close (tie.spec pool-call-requires returns returns-2 returns-3 returns-4 returns-5)
+buffer-call-spec = tie.close (tie.spec (λ c κs. search needs) returns returns-2 returns-3 returns-4 returns-5)

@@ -13,9 +13,6 @@ module _ (s : tie.Start) where
   arm : (k : ℕ) → s .args .kind ≡ k → callIn kinds k (three-back (s .args .a) (s .args .b) (s .args .c)) ≡ callIn kinds (s .args .kind) (s .args .a ∷ s .args .b ∷ s .args .c ∷ [])
   arm = named kinds (s .args .kind) (s .fits .a) (s .fits .b) (s .fits .c)
 
-mutex-call-requires : tie.Need-mutex-call-requires
-mutex-call-requires c κs = search needs
-
 returns : tie.Need-returns
 unfolding callIn kinds fromMutexes
 returns c = arm (c .before) 0x01 (c .match .keys1)
@@ -48,4 +45,4 @@ returns-7 c =
     others kinds (s .args .kind) (s .fits .a) (s .fits .b) (s .fits .c) 6 (q .0 .0 .0 .0 .0 .1, (q .0 .0 .0 .0 .1, (q .0 .0 .0 .1, (q .0 .1, (q .0 .0 .1, (q .1, tt)))))) _ (c .mutex-call .ensures)
 
 pub call-of-spec : {M : Type 1} → statement M
-call-of-spec = tie.close (tie.spec mutex-call-requires returns returns-2 returns-3 returns-4 returns-5 returns-6 returns-7)
+call-of-spec = tie.close (tie.spec (λ c κs. search needs) returns returns-2 returns-3 returns-4 returns-5 returns-6 returns-7)

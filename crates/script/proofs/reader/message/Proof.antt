@@ -18,26 +18,8 @@ found : (c : tie.After-known-told)
     → KnownParts (rowOf (now (start c .args .script) ! start c .args .c .at)) (c .before .fields .given .0 .0) (c .before .fields .given .0 .1 .0)
 found c = row-of-parts _ _ _ (sym (c .before .before .before .body-parts .ensures) ∙ c .before .fields .given .1)
 
-part-requires : tie.Need-part-requires
-part-requires c κs = search needs
-
 returns : tie.Need-returns
 returns c = let a = c .before .before .before .args in c .part .ensures ∙ sym (no-message-at-end (a .script .now) (a .c .at) (c .before .if1 .taken))
-
-shared-slice-read-body-parts : tie.Need-shared-slice-read-body-parts
-shared-slice-read-body-parts c = search needs
-
-body-parts-requires : tie.Need-body-parts-requires
-body-parts-requires c κs = search needs
-
-enum-known-fields : tie.Need-enum-known-fields
-enum-known-fields c = search needs
-
-enum-told : tie.Need-enum-told
-enum-told c = search needs
-
-part-requires-2 : tie.Need-part-requires-2
-part-requires-2 c κs = search needs
 
 returns-2 : tie.Need-returns-2
 returns-2 c =
@@ -47,16 +29,10 @@ returns-2 c =
     ∙ sym (message-at (a .script .now) (a .c .at) (x .before .before .if1 .left)
     ∙ no-message-here (a .c .at) _ _ (row-of-no-parts _ (sym (x .body-parts .ensures) ∙ c .before .enum-told .given .1)))
 
-add-part : tie.Need-add-part
-add-part c = search needs
-
 add-part-2 : tie.Need-add-part-2
 add-part-2 c =
     let r = found c in
     omega (arith, start c .good, c .before .before .before .before .before .if1 .left, r .fields, fields-fit _ (r .row) (r .is), body-short _ (r .row) (r .is))
-
-part-requires-3 : tie.Need-part-requires-3
-part-requires-3 c κs = search needs
 
 returns-3 : tie.Need-returns-3
 returns-3 c =
@@ -66,16 +42,5 @@ returns-3 c =
 pub message-spec : {M : Type 1} → statement M
 message-spec =
     tie.close
-    (tie.spec
-    part-requires
-    returns
-    shared-slice-read-body-parts
-    body-parts-requires
-    enum-known-fields
-    enum-told
-    part-requires-2
-    returns-2
-    add-part
-    add-part-2
-    part-requires-3
-    returns-3)
+    (tie.spec (λ c κs. search needs) returns (λ c. search needs) (λ c κs. search needs) (λ c. search needs) (λ c. search needs)
+    (λ c κs. search needs) returns-2 (λ c. search needs) add-part-2 (λ c κs. search needs) returns-3)

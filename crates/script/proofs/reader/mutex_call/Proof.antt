@@ -13,9 +13,6 @@ module _ (s : tie.Start) where
   arm : (k : ℕ) → s .args .kind ≡ k → callIn fromMutexes k (three-back (s .args .a) (s .args .b) (s .args .c)) ≡ callIn fromMutexes (s .args .kind) (s .args .a ∷ s .args .b ∷ s .args .c ∷ [])
   arm = named fromMutexes (s .args .kind) (s .fits .a) (s .fits .b) (s .fits .c)
 
-buffer-call-requires : tie.Need-buffer-call-requires
-buffer-call-requires c κs = search needs
-
 returns : tie.Need-returns
 unfolding callIn kinds fromMutexes fromBuffers
 returns c = arm (c .before) 0x10 (c .match .keys1)
@@ -40,4 +37,4 @@ returns-5 c =
     others fromMutexes (s .args .kind) (s .fits .a) (s .fits .b) (s .fits .c) 4 (q .0 .0 .0 .1, (q .0 .0 .1, (q .1, (q .0 .1, tt)))) _ (c .buffer-call .ensures)
 
 pub mutex-call-spec : {M : Type 1} → statement M
-mutex-call-spec = tie.close (tie.spec buffer-call-requires returns returns-2 returns-3 returns-4 returns-5)
+mutex-call-spec = tie.close (tie.spec (λ c κs. search needs) returns returns-2 returns-3 returns-4 returns-5)

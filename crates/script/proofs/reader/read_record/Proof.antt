@@ -27,18 +27,6 @@ found c = known-row _ _ (sym (c .before .before .before .body-length .ensures) �
 returns : tie.Need-returns
 returns c = let a = c .before .before .args in sym (stop-at-end (a .script .now) (a .c .at) (c .if1 .taken))
 
-shared-slice-read-kind : tie.Need-shared-slice-read-kind
-shared-slice-read-kind c = search needs
-
-body-length-requires : tie.Need-body-length-requires
-body-length-requires c κs = search needs
-
-enum-known-length : tie.Need-enum-known-length
-enum-known-length c = search needs
-
-enum-told : tie.Need-enum-told
-enum-told c = search needs
-
 returns-2 : tie.Need-returns-2
 returns-2 c =
     let x = c .before .before in
@@ -46,40 +34,10 @@ returns-2 c =
     sym (read-at (a .script .now) (a .c .at) (x .before .before .if1 .left)
     ∙ unknown-here (a .c .at) _ _ (unknown-row _ (sym (x .body-length .ensures) ∙ c .enum-told .given .1)))
 
-add-start : tie.Need-add-start
-add-start c = search needs
-
-sub-if2 : tie.Need-sub-if2
-sub-if2 c = search needs
-
 returns-3 : tie.Need-returns-3
 returns-3 c =
     let a = start (c .before) .args in
     sym (cut-at (a .script .now) (a .c .at) _ (inside (c .before)) (found (c .before)) (c .if2 .taken))
-
-add-end : tie.Need-add-end
-add-end c = search needs
-
-sub-body : tie.Need-sub-body
-sub-body c = search needs
-
-part-body-start : tie.Need-part-body-start
-part-body-start c = search needs
-
-part-body-end : tie.Need-part-body-end
-part-body-end c = search needs
-
-field-requires : tie.Need-field-requires
-field-requires c κs = search needs
-
-field-requires-2 : tie.Need-field-requires-2
-field-requires-2 c κs = search needs
-
-field-requires-3 : tie.Need-field-requires-3
-field-requires-3 c κs = search needs
-
-call-of-requires : tie.Need-call-of-requires
-call-of-requires c κs = search needs
 
 returns-4 : tie.Need-returns-4
 returns-4 c =
@@ -97,22 +55,6 @@ returns-4 c =
 pub read-record-spec : {M : Type 1} → statement M
 read-record-spec =
     tie.close
-    (tie.spec
-    returns
-    shared-slice-read-kind
-    body-length-requires
-    enum-known-length
-    enum-told
-    returns-2
-    add-start
-    sub-if2
-    returns-3
-    add-end
-    sub-body
-    part-body-start
-    part-body-end
-    field-requires
-    field-requires-2
-    field-requires-3
-    call-of-requires
-    returns-4)
+    (tie.spec returns (λ c. search needs) (λ c κs. search needs) (λ c. search needs) (λ c. search needs) returns-2 (λ c. search needs)
+    (λ c. search needs) returns-3 (λ c. search needs) (λ c. search needs) (λ c. search needs) (λ c. search needs) (λ c κs. search needs)
+    (λ c κs. search needs) (λ c κs. search needs) (λ c κs. search needs) returns-4)

@@ -31,63 +31,6 @@ arm {call} {x} e a b c = same (callHead x) a b c ∙ ap callHead (sym e)
 zero : mag (pos 0) < 2 ^ 31
 zero = lit< tt
 
-enum-known-call : tie.Need-enum-known-call
-enum-known-call c = search needs
-
-enum-known-call-2 : tie.Need-enum-known-call-2
-enum-known-call-2 c = search needs
-
-enum-known-call-3 : tie.Need-enum-known-call-3
-enum-known-call-3 c = search needs
-
-enum-told : tie.Need-enum-told
-enum-told c = search needs
-
-enum-known-call-4 : tie.Need-enum-known-call-4
-enum-known-call-4 c = search needs
-
-enum-known-call-5 : tie.Need-enum-known-call-5
-enum-known-call-5 c = search needs
-
-enum-known-call-6 : tie.Need-enum-known-call-6
-enum-known-call-6 c = search needs
-
-enum-known-call-7 : tie.Need-enum-known-call-7
-enum-known-call-7 c = search needs
-
-enum-known-call-8 : tie.Need-enum-known-call-8
-enum-known-call-8 c = search needs
-
-enum-known-call-9 : tie.Need-enum-known-call-9
-enum-known-call-9 c = search needs
-
-enum-known-call-10 : tie.Need-enum-known-call-10
-enum-known-call-10 c = search needs
-
-enum-known-call-11 : tie.Need-enum-known-call-11
-enum-known-call-11 c = search needs
-
-enum-known-call-12 : tie.Need-enum-known-call-12
-enum-known-call-12 c = search needs
-
-enum-known-call-13 : tie.Need-enum-known-call-13
-enum-known-call-13 c = search needs
-
-enum-known-call-14 : tie.Need-enum-known-call-14
-enum-known-call-14 c = search needs
-
-enum-known-call-15 : tie.Need-enum-known-call-15
-enum-known-call-15 c = search needs
-
-enum-known-call-16 : tie.Need-enum-known-call-16
-enum-known-call-16 c = search needs
-
-enum-known-call-17 : tie.Need-enum-known-call-17
-enum-known-call-17 c = search needs
-
-enum-told-2 : tie.Need-enum-told-2
-enum-told-2 c = search needs
-
 returns : tie.Need-returns
 unfolding callHead kindOf fieldsOf
 returns c = arm (c .before .call .given .1) (c .known-told .given .0 .1) zero zero
@@ -167,42 +110,8 @@ returns-19 c = arm (c .enum-told2 .given .1) zero zero zero
 pub call-head-spec : {M : Type 1} → statement M
 call-head-spec =
     tie.close
-    (tie.spec
-    enum-known-call
-    enum-known-call-2
-    enum-known-call-3
-    enum-told
-    enum-known-call-4
-    enum-known-call-5
-    enum-known-call-6
-    enum-known-call-7
-    enum-known-call-8
-    enum-known-call-9
-    enum-known-call-10
-    enum-known-call-11
-    enum-known-call-12
-    enum-known-call-13
-    enum-known-call-14
-    enum-known-call-15
-    enum-known-call-16
-    enum-known-call-17
-    enum-told-2
-    returns
-    returns-2
-    returns-3
-    returns-4
-    returns-5
-    returns-6
-    returns-7
-    returns-8
-    returns-9
-    returns-10
-    returns-11
-    returns-12
-    returns-13
-    returns-14
-    returns-15
-    returns-16
-    returns-17
-    returns-18
-    returns-19)
+    (tie.spec (λ c. search needs) (λ c. search needs) (λ c. search needs) (λ c. search needs) (λ c. search needs) (λ c. search needs)
+    (λ c. search needs) (λ c. search needs) (λ c. search needs) (λ c. search needs) (λ c. search needs) (λ c. search needs)
+    (λ c. search needs) (λ c. search needs) (λ c. search needs) (λ c. search needs) (λ c. search needs) (λ c. search needs)
+    (λ c. search needs) returns returns-2 returns-3 returns-4 returns-5 returns-6 returns-7 returns-8 returns-9 returns-10 returns-11
+    returns-12 returns-13 returns-14 returns-15 returns-16 returns-17 returns-18 returns-19)

@@ -66,18 +66,6 @@ module _ (c : tie.After-head-bytes) where
       ∙ ap (λ (n : ℕ). take (1 + n) (headBytes (callHead (call known)))) (fields-are known)
       ∙ head-begins (call known))
 
-call-head-requires : tie.Need-call-head-requires
-call-head-requires c κs = search needs
-
-body-parts-requires : tie.Need-body-parts-requires
-body-parts-requires c κs = search needs
-
-enum-known-fields : tie.Need-enum-known-fields
-enum-known-fields c = search needs
-
-enum-told : tie.Need-enum-told
-enum-told c = search needs
-
 returns : tie.Need-returns
 returns c =
     let x = c .before .before in
@@ -93,9 +81,6 @@ add-length c = omega (arith, fields-are (c .before), few (call (c .before)))
 add-room : tie.Need-add-room
 add-room c = omega (arith, fields-are (c .before), few (call (c .before)), start (c .before .before .before .before) .good)
 
-room-requires : tie.Need-room-requires
-room-requires c κs = search needs
-
 returns-3 : tie.Need-returns-3
 returns-3 c =
     let x = c .before .before .before in
@@ -103,20 +88,11 @@ returns-3 c =
     no-room (a .area .now) (a .at) (a .call) (a .message .now) (c .before .before .if1 .left ∙ size-is x)
     (rw (← length-is x (a .message .now)) (leb-false _ _ (sym (c .before .room .ensures) ∙ not-true _ (c .if2 .taken))))
 
-head-bytes-requires : tie.Need-head-bytes-requires
-head-bytes-requires c κs = search needs
-
 array-share-prefix-bytes : tie.Need-array-share-prefix-bytes
 array-share-prefix-bytes c = begin (c .before)
 
 slice-aggregate-put-two : tie.Need-slice-aggregate-put-two
 slice-aggregate-put-two c = sym (length-take-le _ (c .before .before .head-bytes .result) (begin (c .before .before)))
-
-put-two-requires : tie.Need-put-two-requires
-put-two-requires c κs = search needs
-
-same-length : tie.Need-same-length
-same-length c = search needs
 
 returns-4 : tie.Need-returns-4
 returns-4 c =
@@ -132,20 +108,6 @@ returns-4 c =
 pub write-record-spec : {M : Type 1} → statement M
 write-record-spec =
     tie.close
-    (tie.spec
-    call-head-requires
-    body-parts-requires
-    enum-known-fields
-    enum-told
-    returns
-    returns-2
-    add-length
-    add-room
-    room-requires
-    returns-3
-    head-bytes-requires
-    array-share-prefix-bytes
-    slice-aggregate-put-two
-    put-two-requires
-    same-length
-    returns-4)
+    (tie.spec (λ c κs. search needs) (λ c κs. search needs) (λ c. search needs) (λ c. search needs) returns returns-2 add-length add-room
+    (λ c κs. search needs) returns-3 (λ c κs. search needs) array-share-prefix-bytes slice-aggregate-put-two (λ c κs. search needs)
+    (λ c. search needs) returns-4)

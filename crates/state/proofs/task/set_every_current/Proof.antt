@@ -14,20 +14,11 @@ Inv-loop state₀ v n₀ state n = CurrentsFilled state₀ state v n
 abbrev μ-loop : tie.MeasureT-loop
 μ-loop state₀ v n₀ state n = tasks - n
 
-put-current-requires : tie.Need-put-current-requires Inv-loop μ-loop
-put-current-requires c κs = search needs
-
 loop-holds : tie.Need-loop-holds Inv-loop μ-loop
 loop-holds c = search fill-start
 
-add-put-current : tie.Need-add-put-current Inv-loop μ-loop
-add-put-current c = search needs
-
 put-current-requires-2 : tie.Need-put-current-requires-2 Inv-loop μ-loop
 put-current-requires-2 c κs = c .before .before .loop .inv .state .length
-
-add-n : tie.Need-add-n Inv-loop μ-loop
-add-n c = search needs
 
 loop-less : tie.Need-loop-less Inv-loop μ-loop
 loop-less c = omega arith
@@ -43,4 +34,5 @@ returns c = search fill-done
 
 pub set-every-current-spec : {M : Type 1} → statement M
 set-every-current-spec =
-    tie.close (tie.spec Inv-loop μ-loop put-current-requires loop-holds add-put-current put-current-requires-2 add-n loop-less loop-again same-length returns)
+    tie.close (tie.spec Inv-loop μ-loop (λ c κs. search needs) loop-holds (λ c. search needs) put-current-requires-2 (λ c. search needs) loop-less
+    loop-again same-length returns)

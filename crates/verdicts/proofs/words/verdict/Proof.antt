@@ -9,33 +9,6 @@ use borrow.Author.Needs.{needs}
 use Rattle.verdicts.proofs.words.verdict.Statement.{statement}
 use Rattle.verdicts.proofs.words.verdict.Tie as tie
 
-sub-fill : tie.Need-sub-fill
-sub-fill c = search needs
-
-part-fill-start : tie.Need-part-fill-start
-part-fill-start c = search needs
-
-part-fill-end : tie.Need-part-fill-end
-part-fill-end c = search needs
-
-fill-requires : tie.Need-fill-requires
-fill-requires c κs = search needs
-
-sub-is-valid : tie.Need-sub-is-valid
-sub-is-valid c = search needs
-
-part-is-valid-start : tie.Need-part-is-valid-start
-part-is-valid-start c = search needs
-
-part-is-valid-end : tie.Need-part-is-valid-end
-part-is-valid-end c = search needs
-
-is-valid-requires : tie.Need-is-valid-requires
-is-valid-requires c κs = search needs
-
-same-length : tie.Need-same-length
-same-length c = search needs
-
 returns : tie.Need-returns
 returns c =
     let filled = c .before .before .before .before .before in
@@ -47,14 +20,5 @@ returns c =
 pub verdict-spec : {M : Type 1} → statement M
 verdict-spec =
     tie.close
-    (tie.spec
-    sub-fill
-    part-fill-start
-    part-fill-end
-    fill-requires
-    sub-is-valid
-    part-is-valid-start
-    part-is-valid-end
-    is-valid-requires
-    same-length
-    returns)
+    (tie.spec (λ c. search needs) (λ c. search needs) (λ c. search needs) (λ c κs. search needs) (λ c. search needs) (λ c. search needs)
+    (λ c. search needs) (λ c κs. search needs) (λ c. search needs) returns)

@@ -8,16 +8,10 @@ use Rattle.model.specs.Number.{fieldNumber, maybeBuffer}
 use Rattle.model.proofs.number.BufferNumber.from_field.Statement.{statement}
 use Rattle.model.proofs.number.BufferNumber.from_field.Tie as tie
 
-field-number-requires : tie.Need-field-number-requires
-field-number-requires c κs = search needs
-
-maybe-requires : tie.Need-maybe-requires
-maybe-requires c κs = search needs
-
 returns : tie.Need-returns
 returns c =
     c .maybe .ensures
     ∙ ap maybeBuffer (c .before .field-number .ensures ∙ ap (λ (z : ℤ). fieldNumber z buffers) (toZ-ofZ (c .before .before .fits .n)))
 
 pub from-field-spec : {M : Type 1} → statement M
-from-field-spec = tie.close (tie.spec field-number-requires maybe-requires returns)
+from-field-spec = tie.close (tie.spec (λ c κs. search needs) (λ c κs. search needs) returns)

@@ -3,15 +3,6 @@ use borrow.Author.Needs.{needs}
 use Rattle.model.proofs.number.MaybeTask.byte.Statement.{statement}
 use Rattle.model.proofs.number.MaybeTask.byte.Tie as tie
 
-enum-known-self : tie.Need-enum-known-self
-enum-known-self c = search needs
-
-byte-requires : tie.Need-byte-requires
-byte-requires c κs = search needs
-
-enum-told : tie.Need-enum-told
-enum-told c = search needs
-
 returns : tie.Need-returns
 returns c = rw (c .before .before .self .given .1) (c .byte .ensures)
 
@@ -19,4 +10,4 @@ returns-2 : tie.Need-returns-2
 returns-2 c = rw (c .enum-told .given .1)
 
 pub byte-spec : {M : Type 1} → statement M
-byte-spec = tie.close (tie.spec enum-known-self byte-requires enum-told returns returns-2)
+byte-spec = tie.close (tie.spec (λ c. search needs) (λ c κs. search needs) (λ c. search needs) returns returns-2)

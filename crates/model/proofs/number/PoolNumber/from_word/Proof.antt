@@ -5,14 +5,8 @@ use Rattle.model.specs.Number.{maybePool}
 use Rattle.model.proofs.number.PoolNumber.from_word.Statement.{statement}
 use Rattle.model.proofs.number.PoolNumber.from_word.Tie as tie
 
-word-number-requires : tie.Need-word-number-requires
-word-number-requires c κs = search needs
-
-maybe-requires : tie.Need-maybe-requires
-maybe-requires c κs = search needs
-
 returns : tie.Need-returns
 returns c = c .maybe .ensures ∙ ap maybePool (c .before .word-number .ensures)
 
 pub from-word-spec : {M : Type 1} → statement M
-from-word-spec = tie.close (tie.spec word-number-requires maybe-requires returns)
+from-word-spec = tie.close (tie.spec (λ c κs. search needs) (λ c κs. search needs) returns)
