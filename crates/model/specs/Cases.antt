@@ -3,6 +3,7 @@ use Prim.Native.Nat.{ℕ, suc, pred}
 use mathlib.Core.Path.{_≡_, refl}
 use mathlib.Core.Bool.{true}
 use mathlib.Core.List.{List, [], _∷_, _++_, map, foldl}
+use lib.ListN.{length}
 use lib.IntN.{ℤ, pos}
 use Rattle.model.specs.declared.call.Call.{Call}
 use Rattle.model.specs.declared.call.Call.the-variants.{CreTsk, StaTsk, CreMtx, LocMtx, UnlMtx, CreMbf, SndMbf, RcvMbf, CreMpf, GetMpf, Tick}
@@ -16,7 +17,9 @@ use Rattle.model.specs.World.{Lent, Delivery, Nothing, Message, Block, r
 use Rattle.model.specs.Message.{part}
 use Rattle.model.specs.Valid.{valid}
 use Rattle.model.specs.Step.{Outcome, step, freshLent}
+use Rattle.model.specs.Lent.{Areas, withLog, notValid}
 use Rattle.model.specs.Compute.{compute}
+use Rattle.model.specs.Script.{scriptLog}
 
 -- What is seen of a run: each call's answer, the ended waits with their codes, what was delivered to whom, and numbers of what is lent at
 -- the end.
@@ -391,3 +394,19 @@ cases =
 pub fresh-valid : valid freshLent ≡ true
 unfolding compute
 fresh-valid = refl
+
+-- ---- bytes
+
+-- "Whole example." A tick, a get_mpf of a pool that is not there, and a cut record
+pub wholeExample : scriptLog (0x40 ∷ 0x32 ∷ 0x01 ∷ 0x00 ∷ 0x00 ∷ 0x00 ∷ 0x00 ∷ 0x00 ∷ 0x00 ∷ 0x00 ∷ 0x22 ∷ [])
+    ≡ 0x80 ∷ 0x00 ∷ 0x00 ∷ 0x00 ∷ 0x00 ∷ 0x8F ∷ 0x01 ∷ 0x80 ∷ 0xD6 ∷ 0xFF ∷ 0xFF ∷ 0xFF ∷ 0x8F ∷ 0x01 ∷ 0x8E ∷ 0x0A ∷ 0x00 ∷ 0x00 ∷ 0x00 ∷ []
+unfolding scriptLog
+wholeExample = refl
+
+-- "Order 1 below logs 80 FB FF FF FF 8F 00", whatever is lent
+abbrev pub orderOneLog : List ℕ
+orderOneLog = 0x80 ∷ 0xFB ∷ 0xFF ∷ 0xFF ∷ 0xFF ∷ 0x8F ∷ 0x00 ∷ []
+
+pub notValidLogs : (a : Areas) → notValid a ≡ record { answer = Code E-SYS; written = length orderOneLog; areas = withLog a orderOneLog }
+unfolding compute
+notValidLogs a = refl

@@ -49,7 +49,7 @@ validStep x c bytes =
     elim (firstRefusal (refusals (x .kernel) c bytes))
     [ none ↦ carriedOut (effect (begun x) c bytes) | some e ↦ refused x e (running (x .kernel)) ]
 
--- Order 1: "state not sound, or an area not exactly 1,024 or 512 bytes"; no task runs then
+-- Order 1: "state not sound, or an area not exactly" `storeBytes` or `outboxBytes` long; no task runs then
 unfoldable pub step : Lent → Call → List ℕ → Outcome
 step x c bytes = elim (valid x) [ true ↦ validStep x c bytes | false ↦ refused x E-SYS 0 ]
 

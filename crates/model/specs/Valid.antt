@@ -73,7 +73,7 @@ pub record PoolLists (x : Pools) : Type 0 where
 abbrev pub lists : ℕ → List (List ℕ) → Bool
 lists n = all (λ x. eqb (length x) (suc n) && eqb (x ! 0) 0)
 
--- the lists that have no such entry, and "an area not exactly 1,024 or 512 bytes"
+-- the lists that have no such entry, and the areas, each "exactly" `storeBytes` or `outboxBytes` long
 pub record Lengths (x : Lent) : Type 0 where
   pub arrivals : length (x .kernel .arrivals) ≡ tasks
   pub taken : length (x .kernel .pools .taken) ≡ suc pools * suc blocks
