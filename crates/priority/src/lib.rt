@@ -13,7 +13,7 @@ ghost use Rattle.model.specs.World.{recompute};
 ghost use Rattle.state.specs.Words.{wordCount, kernel, Represents};
 ghost use Rattle.priority.specs.Own.{baseOf};
 ghost use Rattle.priority.specs.Walk.{MayRaise, raisedKernel};
-ghost use Rattle.priority.specs.Afresh.{basesRaised, MayRaiseHolder, raisedHolder};
+ghost use Rattle.priority.specs.Afresh.{noneYet, basesRaised, MayRaiseHolder, raisedHolder};
 
 // "None yet": every priority is as urgent or more urgent.
 const NONE_YET: u32 = 4294967295;
@@ -35,10 +35,18 @@ fn raise_to_bases(state: &mut [u32])
     requires { ⌜ length (now state) ≡ wordCount ⌝ }
     ensures { λ _. ⌜ Represents (now (state .exit)) (basesRaised (kernel (now (state .entry)))) ⌝ }
 {
-    task::set_every_current(state, NONE_YET);
+    forget(state);
     for n in 0..TASKS {
         raise_to_base(state, n + 1);
     }
+}
+
+// What the current priorities were is forgotten, so that each can fall.
+fn forget(state: &mut [u32])
+    requires { ⌜ length (now state) ≡ wordCount ⌝ }
+    ensures { λ _. ⌜ Represents (now (state .exit)) (noneYet (kernel (now (state .entry)))) ⌝ }
+{
+    task::set_every_current(state, NONE_YET);
 }
 
 // The task of a number is raised to its base priority.
