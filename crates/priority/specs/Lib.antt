@@ -1,7 +1,6 @@
 pub mod Linked
 pub mod Least
 pub mod Raise
-pub mod Recompute
 pub mod Effective
 pub mod Own
 pub mod Walk

@@ -1,19 +1,19 @@
 -- The two definitions of linked agree, over any function from a task to the next one: "through a chain of such steps" of any length, and the
 -- test that looks at no more steps than there are tasks. Assumes nothing.
-use Prim.Native.Nat.{ℕ, zero, suc, _+_, _≤_, _<_}
+use Prim.Native.Nat.{ℕ, zero, suc, _≤_, _<_}
 use native.Mathlib.Nat.{not-suc-le-zero, suc-ne-zero}
 use native.Mathlib.Decide.{ℕ-discrete, decLe}
 use native.Mathlib.Omega.{arith}
-use mathlib.Core.Path.{_≡_, _∙_, refl, sym, ap, subst}
+use mathlib.Core.Path.{_≡_, _∙_, refl, sym, subst}
 use mathlib.Core.Logic.{_≢_, _⊎_, inl, inr, _↔_}
-use mathlib.Core.Bool.{Bool, true, false, _||_, not, false≢true}
+use mathlib.Core.Bool.{true, _||_, false≢true}
 use mathlib.Core.List.{List, [], _∷_}
 use lib.ListN.{length}
 use lib.Dec.{eqb}
-use borrow.Author.Tests.{eqb-true, eqb-false, eq-eqb, ne-eqb}
+use borrow.Author.Tests.{eqb-true, eq-eqb}
 use Rattle.model.proofs.ListLaws.{or-elim, or-left, or-right, without-keeps, without-shorter, length-countFrom, member-countFrom}
 use Rattle.model.specs.Sizes.{tasks}
-use Rattle.model.specs.Lists.{countFrom, upTo, member, select, keep, without}
+use Rattle.model.specs.Lists.{upTo, member, without}
 use Rattle.model.specs.Priority.{Linked, step, chain, after, linked}
 
 -- ---- chains inside a list of tasks
@@ -59,6 +59,10 @@ module _ (next : ℕ → ℕ) where
   pub goes-on : {x y : ℕ} → Linked next x y → next x ≢ 0
   goes-on (step e f) q = f (sym e ∙ q)
   goes-on (chain e f c) q = f (sym e ∙ q)
+
+  pub linked-trans : {x y z : ℕ} → Linked next x y → Linked next y z → Linked next x z
+  linked-trans (step e f) c = chain e f c
+  linked-trans (chain e f b) c = chain e f (linked-trans b c)
 
   pub bounded : (n t : ℕ) → ((t : ℕ) → n < t → next t ≡ 0) → next t ≢ 0 → t ≤ n
   bounded n t ends h = go (decLe t n)

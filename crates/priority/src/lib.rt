@@ -4,6 +4,7 @@ mod walk;
 
 use model::number::MaybeTask;
 use model::number::TaskNumber;
+use model::sizes::LARGEST_WORD;
 use model::sizes::MUTEXES;
 use model::sizes::TASKS;
 use state::task;
@@ -14,10 +15,7 @@ ghost use Rattle.model.specs.Words.{wordCount, kernel};
 ghost use Rattle.state.specs.Words.{Represents};
 ghost use Rattle.priority.specs.Own.{baseOf};
 ghost use Rattle.priority.specs.Walk.{MayRaise, raisedKernel};
-ghost use Rattle.priority.specs.Afresh.{basesRaised, MayRaiseHolder, raisedHolder};
-
-// "None yet": every priority is as urgent or more urgent.
-const NONE_YET: u32 = 4294967295;
+ghost use Rattle.priority.specs.Afresh.{noneYet, basesRaised, MayRaiseHolder, raisedHolder};
 
 // Every current priority becomes the effective one, whatever the words hold. Few mutexes have ceilings, so only the tasks that hold one
 // are asked for more than their base priorities.
@@ -36,10 +34,19 @@ fn raise_to_bases(state: &mut [u32])
     requires { ⌜ length (now state) ≡ wordCount ⌝ }
     ensures { λ _. ⌜ Represents (now (state .exit)) (basesRaised (kernel (now (state .entry)))) ⌝ }
 {
-    task::set_every_current(state, NONE_YET);
+    forget(state);
     for n in 0..TASKS {
         raise_to_base(state, n + 1);
     }
+}
+
+// What the current priorities were is forgotten, so that each can fall.
+fn forget(state: &mut [u32])
+    requires { ⌜ length (now state) ≡ wordCount ⌝ }
+    ensures { λ _. ⌜ Represents (now (state .exit)) (noneYet (kernel (now (state .entry)))) ⌝ }
+{
+    // as urgent as the largest word, or more urgent, is every priority
+    task::set_every_current(state, LARGEST_WORD);
 }
 
 // The task of a number is raised to its base priority.

@@ -1,4 +1,5 @@
 // A task's own priority, and which tasks' own priorities may differ from their bases.
+use model::attribute::CEILINGED;
 use model::number::MaybeMutex;
 use model::number::MaybeTask;
 use model::number::MutexNumber;
@@ -13,9 +14,6 @@ ghost use Rattle.model.specs.Sizes.{tasks, mutexes};
 ghost use Rattle.model.specs.Number.{wordNumber, maybeTask};
 ghost use Rattle.model.specs.Words.{wordCount, kernel};
 ghost use Rattle.priority.specs.Own.{ownOf, withCeilingOf, ceilingHolder};
-
-// A mutex's attribute: its ceiling counts for the task that holds it.
-const CEILINGED: u32 = 3;
 
 // The most urgent of the task's base priority and the ceilings that it holds. Entry 0 of a field stands for no task, whatever it
 // holds, so the number is not 0.

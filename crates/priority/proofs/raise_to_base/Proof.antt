@@ -1,29 +1,37 @@
 -- `raise_to_base` meets its contract: a number in range names its task. Assumes nothing.
 use borrow.Author.Needs.{needs}
+use mathlib.Core.Path.{_∙_, sym}
 use Rattle.model.specs.Sizes.{tasks}
+use Rattle.model.proofs.NumberLaws.{Names, task-there, task-none}
 use Rattle.model.specs.Words.{kernel}
-use Rattle.priority.specs.Own.{Named, task-named, task-unnamed, inside, base-is}
+use Rattle.priority.proofs.OwnLaws.{inside, base-is}
 use Rattle.priority.proofs.raise_to_base.Statement.{statement}
 use Rattle.priority.proofs.raise_to_base.Tie as tie
 
+-- from where the task is known: back to the start
+abbrev start : tie.After-t → tie.Start
+start c = c .before .before .before .before
+
 -- the task is the one that n names
-is-task : (c : tie.After-t) → Named (c .before .before .before .before .args .n) tasks (c .t .given .0 .0 .0)
-is-task c = task-named _ (c .before .before .from-word .ensures) _ (c .t .given .1)
+is-task : (c : tie.After-t) → Names tasks (start c .args .n) (c .t .given .0 .0 .0)
+is-task c = task-there _ _ (sym (c .before .before .from-word .ensures) ∙ c .t .given .1)
 
 raise-task-requires : tie.Need-raise-task-requires
 raise-task-requires c κs =
-    let start = c .before .before .before .before .before .before .before .before in
-    let t = is-task (c .before .before .before .before) in
-    rw (c .before .base .ensures, base-is (kernel (start .args .state .now)) _ (t .low), t .same) (start .pre)
+    let t = c .before .before .before .before in
+    rw (c .before .base .ensures, is-task t .0, base-is (kernel (start t .args .state .now)) _ (start t .pre .low)) (start t .pre)
 
 returns : tie.Need-returns
 returns c =
-    let start = c .before .before .before .before .before .before .before .before .before .before .before in
-    let t = is-task (c .before .before .before .before .before .before .before) in
-    rw (c .before .before .before .before .base .ensures, base-is (kernel (start .args .state .now)) _ (t .low), t .same) at (c .before .before .raise-task .ensures)
+    let base = c .before .before .before .before in
+    let t = base .before .before .before in
+    rw (base .base .ensures, is-task t .0, base-is (kernel (start t .args .state .now)) _ (start t .pre .low)) at (c .before .before .raise-task .ensures)
 
 returns-2 : tie.Need-returns-2
-returns-2 c = inside (c .before .before .before .before .pre .low) (c .before .before .before .before .pre .high) (task-unnamed _ (c .before .before .from-word .ensures) (c .enum-told .given .1))
+returns-2 c =
+    let number = c .before .before in
+    let pre = number .before .before .pre in
+    inside (pre .low) (pre .high) (task-none _ (sym (number .from-word .ensures) ∙ c .enum-told .given .1))
 
 pub raise-to-base-spec : {M : Type 1} → statement M
 raise-to-base-spec =

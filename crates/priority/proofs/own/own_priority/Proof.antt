@@ -6,7 +6,7 @@ use native.Mathlib.Numerals.{add-one}
 use native.Mathlib.Omega.{arith}
 use Rattle.model.specs.Sizes.{mutexes}
 use Rattle.model.specs.Words.{kernel}
-use Rattle.priority.specs.Own.{ownSoFar, own-start, own-step, own-all}
+use Rattle.priority.proofs.OwnLaws.{ownSoFar, own-start, own-step, own-all}
 use Rattle.priority.proofs.own.own_priority.Statement.{statement}
 use Rattle.priority.proofs.own.own_priority.Tie as tie
 

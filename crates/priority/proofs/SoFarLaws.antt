@@ -1,4 +1,4 @@
--- Raising every task to its own priority, one after the other, gives the effective priorities. Assumes nothing.
+-- Laws of raising every task to its own priority, one after the other. Assumes nothing.
 use Prim.Native.Nat.{ℕ, zero, suc, _+_, _≤_, _<_, min}
 use native.Mathlib.Nat.{le-antisymm, add-zero, add-suc, suc-add}
 use native.Mathlib.Numerals.{one-add}
@@ -6,19 +6,20 @@ use native.Mathlib.Decide.{ℕ-discrete}
 use native.Mathlib.Omega.{arith}
 use mathlib.Core.Path.{_≡_, _∙_, refl, sym, ap, subst}
 use mathlib.Core.Logic.{_≢_, _⊎_, inl, inr}
-use mathlib.Core.Bool.{Bool, true, false, _||_, cond, false≢true}
+use mathlib.Core.Bool.{Bool, true, false, cond, false≢true}
 use mathlib.Core.List.{List, [], _∷_, map}
-use lib.ListN.{length, length-map}
+use lib.ListN.{length}
 use lib.Seq.{ext-getD}
 use lib.Dec.{eqb}
 use borrow.Author.Tests.{eqb-true}
 use Rattle.model.specs.Sizes.{tasks, endless}
-use Rattle.model.specs.Lists.{_!_, countFrom, upTo, select, keep}
-use Rattle.model.specs.Facts.{Facts}
-use Rattle.model.specs.Priority.{Linked, step, chain, linked, mostUrgent, holderAwaited, ownPriority, effective, effectives}
+use Rattle.model.specs.Lists.{_!_, countFrom, select, keep}
+use Rattle.model.specs.Priority.{Linked, step, linked, mostUrgent}
 use Rattle.model.proofs.ListLaws.{or-elim, or-right, mapped-at, map-agree}
 use Rattle.priority.specs.Least.{least, least-first, least-at, least-above}
-use Rattle.priority.specs.Raise.{comesTo, raised, Falls, comes-refl, comes-elim, comes-linked, raised-at, length-raised}
+use Rattle.priority.specs.Linked.{linked-trans}
+use Rattle.priority.specs.Raise.{comesTo, raised, Falls, soFar, allSoFar}
+use Rattle.priority.proofs.RaiseLaws.{comes-refl, comes-elim, comes-linked, raised-at, length-raised}
 
 -- one number more among those that the most urgent is taken of
 module _ (f : ℕ → ℕ) (p : ℕ → Bool) where
@@ -42,17 +43,20 @@ module _ (f : ℕ → ℕ) (p : ℕ → Bool) where
   pub least-suc : (a n : ℕ) → least a f p (suc n) ≡ cond (p (suc n)) (min (least a f p n) (f (suc n))) (least a f p n)
   least-suc a n = rw one-add at (among-suc a 1 n)
 
-module _ (next own : ℕ → ℕ) where
-  -- a task's priority once the first n tasks have been raised to their own, and every task's
-  abbrev pub soFar : ℕ → ℕ → ℕ
-  soFar n t = least endless own (λ v. comesTo next v t) n
-
-  unfoldable pub allSoFar : ℕ → List ℕ
-  allSoFar n = 0 ∷ map (soFar n) (upTo tasks)
-
-  pub length-soFar : (n : ℕ) → length (allSoFar n) ≡ suc tasks
+-- the list, entry by entry
+module _ (next own : ℕ → ℕ) (n : ℕ) where
+  soFar-long : length (allSoFar next own n) ≡ suc tasks
   unfolding allSoFar
-  length-soFar n = refl
+  soFar-long = refl
+
+  soFar-none : allSoFar next own n ! 0 ≡ 0
+  unfolding allSoFar
+  soFar-none = refl
+
+  soFar-at : (t : ℕ) → 1 ≤ t → t ≤ tasks → allSoFar next own n ! t ≡ soFar next own n t
+  unfolding allSoFar
+  soFar-at zero a b = absurd (omega arith)
+  soFar-at (suc t) a b = mapped-at (soFar next own n) 1 tasks t 0 (omega arith) ∙ ap (soFar next own n) (one-add t)
 
 -- priorities that agree give the same
 module _ (next own other : ℕ → ℕ) where
@@ -68,32 +72,22 @@ allSoFar-agree next own other same =
     (map-agree _ _ 1 tasks (λ t a b. le-antisymm (soFar-agree next own other same t) (soFar-agree next other own (λ v l h. sym (same v l h)) t)))
 
 module _ (next own : ℕ → ℕ) (ends : (t : ℕ) → tasks < t → next t ≡ 0) where
-  soFar-none : (n : ℕ) → allSoFar next own n ! 0 ≡ 0
-  unfolding allSoFar
-  soFar-none n = refl
-
-  soFar-at : (n t : ℕ) → 1 ≤ t → t ≤ tasks → allSoFar next own n ! t ≡ soFar next own n t
-  unfolding allSoFar
-  soFar-at n zero a b = absurd (omega arith)
-  soFar-at n (suc t) a b = mapped-at (soFar next own n) 1 tasks t 0 (omega arith) ∙ ap (soFar next own n) (one-add t)
-
-module _ (next own : ℕ → ℕ) (ends : (t : ℕ) → tasks < t → next t ≡ 0) where
   -- a walk from v takes each task's priority from one to another
   raised-is : (other : ℕ → ℕ) (n m v p : ℕ)
       → ((t : ℕ) → 1 ≤ t → t ≤ tasks → cond (comesTo next v t) (min (soFar next own n t) p) (soFar next own n t) ≡ soFar next other m t)
       → raised next v p (allSoFar next own n) ≡ allSoFar next other m
   raised-is other n m v p each =
-      ext-getD 0 _ _ (length-raised next ends v p (allSoFar next own n) ∙ sym (length-soFar next other m))
-      (λ t h. let k : t < suc tasks = omega (arith, length-raised next ends v p (allSoFar next own n)) in raised-at next ends v p (allSoFar next own n) t k ∙ go t k)
+      ext-getD 0 _ _ (length-raised next v p (allSoFar next own n) ∙ sym (soFar-long next other m))
+      (λ t h. let k : t < suc tasks = omega (arith, length-raised next v p (allSoFar next own n)) in raised-at next v p (allSoFar next own n) t k ∙ go t k)
     where
       none : (c : Bool) (p : ℕ) → cond c (min 0 p) 0 ≡ 0
       none true p = omega arith
       none false p = refl
 
       go : (t : ℕ) → t < suc tasks → cond (comesTo next v t) (min (allSoFar next own n ! t) p) (allSoFar next own n ! t) ≡ allSoFar next other m ! t
-      go zero h = rw (soFar-none next own ends n, soFar-none next other ends m) (none (comesTo next v 0) p)
+      go zero h = rw (soFar-none next own n, soFar-none next other m) (none (comesTo next v 0) p)
       go (suc t) h =
-          rw (soFar-at next own ends n (suc t) (omega arith) (omega arith), soFar-at next other ends m (suc t) (omega arith) (omega arith)) (each (suc t) (omega arith) (omega arith))
+          rw (soFar-at next own n (suc t) (omega arith) (omega arith), soFar-at next other m (suc t) (omega arith) (omega arith)) (each (suc t) (omega arith) (omega arith))
 
   -- one task more
   pub soFar-step : (n : ℕ) → raised next (suc n) (own (suc n)) (allSoFar next own n) ≡ allSoFar next own (suc n)
@@ -141,17 +135,12 @@ module _ (next own : ℕ → ℕ) (ends : (t : ℕ) → tasks < t → next t ≡
           (λ x l h o. kept t x e o (at-own t x l h o)))
           (no-more t)
 
-  -- a chain with one step more
-  linked-snoc : {x t u : ℕ} → Linked next x t → next t ≡ u → u ≢ 0 → Linked next x u
-  linked-snoc (step q f) e h = chain q f (step e h)
-  linked-snoc (chain q f l) e h = chain q f (linked-snoc l e h)
-
   comes-on : (v t : ℕ) → t ≤ tasks → next t ≢ 0 → next t ≤ tasks → comesTo next v t ≡ true → comesTo next v (next t) ≡ true
   comes-on v t h n m e = go (comes-elim next ends v t h e)
     where
       go : (v ≡ t) ⊎ Linked next v t → comesTo next v (next t) ≡ true
       go (inl q) = comes-linked next ends v (next t) m (step (ap next q) n)
-      go (inr l) = comes-linked next ends v (next t) m (linked-snoc l refl n)
+      go (inr l) = comes-linked next ends v (next t) m (linked-trans next l (step refl n))
 
   -- whoever comes to a task comes to the next one: so no step leads to a less urgent task
   falls : (n t : ℕ) → t ≤ tasks → next t ≢ 0 → next t ≤ tasks → soFar next own n (next t) ≤ soFar next own n t
@@ -162,8 +151,8 @@ module _ (next own : ℕ → ℕ) (ends : (t : ℕ) → tasks < t → next t ≡
   pub soFar-falls : (n v p : ℕ) → Falls next (allSoFar next own n) v p
   soFar-falls n v p =
       record {
-        elsewhere = λ t a b m k d. rw (soFar-at next own ends n t a b, soFar-at next own ends n (next t) (omega arith) k) (falls n t b m k);
-        there = λ t a b m k q. rw (soFar-at next own ends n t a b, ← q, soFar-at next own ends n (next t) (omega arith) k) (let l = falls n t b m k in omega arith);
+        elsewhere = λ t a b m k d. rw (soFar-at next own n t a b, soFar-at next own n (next t) (omega arith) k) (falls n t b m k);
+        there = λ t a b m k q. rw (soFar-at next own n t a b, ← q, soFar-at next own n (next t) (omega arith) k) (let l = falls n t b m k in omega arith);
       }
 
   -- when all have been raised: the most urgent of a task's own priority and those of the tasks linked to it
@@ -173,7 +162,7 @@ module _ (next own : ℕ → ℕ) (ends : (t : ℕ) → tasks < t → next t ≡
   soFar-all fits t a b =
       le-antisymm
       (least-above own (λ x. linked next x t) (own t) tasks (soFar next own tasks t)
-      (least-at own (λ v. comesTo next v t) endless tasks t a b (comes-refl next ends t))
+      (least-at own (λ v. comesTo next v t) endless tasks t a b (comes-refl next t))
       (λ x l h e. least-at own (λ v. comesTo next v t) endless tasks x l h (or-right (eqb x t) _ e)))
       (least-above own (λ v. comesTo next v t) endless tasks whole (let k = least-first own (λ x. linked next x t) (own t) tasks in let f = fits t in omega arith)
       (λ v l h e. go v l h (or-elim (eqb v t) (linked next v t) e)))
