@@ -1,15 +1,15 @@
 -- The statements and the tests of validity agree, clause by clause. Assumes nothing.
-use Prim.Native.Nat.{ℕ, zero, suc, _+_, _*_, _-_, _≤_, _<_}
+use Prim.Native.Nat.{ℕ, suc, _*_, _-_, _≤_, _<_}
 use native.Mathlib.Omega.{arith}
-use mathlib.Core.Path.{_≡_, _∙_, refl, sym, ap, subst}
-use mathlib.Core.Logic.{_≢_, _⊎_, inl, inr, _↔_}
-use mathlib.Core.Bool.{Bool, true, false, _&&_, _||_, not}
+use mathlib.Core.Path.{_≡_, refl, sym}
+use mathlib.Core.Logic.{_≢_, inl, inr}
+use mathlib.Core.Bool.{Bool, true, false, _&&_, not}
 use mathlib.Core.List.{List, [], _∷_}
 use lib.ListN.{length, drop, length-take, length-drop}
-use lib.Dec.{eqb, leb, ltb}
+use lib.Dec.{eqb, leb}
 use borrow.Author.Tests.{eqb-false, ne-eqb}
 use Rattle.model.specs.Sizes.{tasks, priorities, mutexes, buffers, pools, blocks, messageBytes, regionBytes, blockBytes, poolBytes, storeBytes, outboxBytes, longest, endless}
-use Rattle.model.specs.Lists.{_!_, upTo, countFrom, all, member, occurrences, same, implies, within, padded, select}
+use Rattle.model.specs.Lists.{_!_, upTo, countFrom, all, member, occurrences, implies, padded, select}
 use Rattle.model.specs.Facts.{absent, dormant, ready, locking, sending, receiving, getting, ceilinged}
 use Rattle.model.specs.Priority.{effectives}
 use Rattle.model.specs.Kernel.{Kernel, facts, slot}
@@ -17,9 +17,9 @@ use Rattle.model.specs.World.{Lent}
 use Rattle.model.specs.Message.{part, region}
 use Rattle.model.specs.Act.{firstFits}
 use Rattle.model.specs.Refusal.{aboveCeiling, freeBlock, poolSum, mutexAttributes, bufferAttributes, poolAttributes}
-use Rattle.model.specs.Valid.{From, Each, taskLists, mutexLists, bufferLists, poolLists, Lists, lists, Lengths, lengths, TaskRange, taskRange, MutexRange, mutexRange, BufferRange, bufferRange, PoolRange, poolRange, BlockFlag, blockFlag, Argument, argument, Wait, waitFields, awaitable, Arrivals, arrivals, Priorities, currentPriorities, Ceiling, ceiling, Locking, lockingTask, Getting, gettingTask, Receiving, receivingTask, FirstSender, firstSender, Outbox, outboxPart, RegionLayout, regionLayout, Valid, valid}
+use Rattle.model.specs.Valid.{Each, taskLists, mutexLists, bufferLists, poolLists, Lists, lists, Lengths, lengths, TaskRange, taskRange, MutexRange, mutexRange, BufferRange, bufferRange, PoolRange, poolRange, BlockFlag, blockFlag, Argument, argument, Wait, waitFields, awaitable, Arrivals, arrivals, Priorities, currentPriorities, Ceiling, ceiling, Locking, lockingTask, Getting, gettingTask, Receiving, receivingTask, FirstSender, firstSender, Outbox, outboxPart, RegionLayout, regionLayout, Valid, valid}
 use Rattle.message.proofs.Layouts.{layout-valid, valid-layout}
-use Rattle.valid.specs.Tests.{Agrees, and-agrees, or-agrees, implies-agrees, not-agrees, and3, and4, and5, eq-agrees, ne-agrees, le-agrees, lt-agrees, within-agrees, each-agrees, each-within, then-agrees, to-agrees, entries-agree, same-agrees, none-agrees, zero-agrees}
+use Rattle.valid.specs.Tests.{Agrees, and-agrees, or-agrees, implies-agrees, and3, and4, and5, eq-agrees, ne-agrees, le-agrees, lt-agrees, within-agrees, each-agrees, each-within, then-agrees, to-agrees, entries-agree, same-agrees, none-agrees, zero-agrees}
 
 -- a test that is itself the statement
 itself : (b : Bool) → Agrees b (b ≡ true)

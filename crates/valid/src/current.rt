@@ -10,7 +10,7 @@ ghost use Rattle.model.specs.Sizes.{tasks};
 ghost use Rattle.model.specs.Lists.{all, upTo};
 ghost use Rattle.model.specs.Valid.{Lists, taskLists, currentPriorities};
 ghost use Rattle.state.specs.Words.{wordCount, kernel};
-ghost use Rattle.valid.specs.Currents.{sameCurrent};
+ghost use Rattle.valid.specs.Parts.{sameCurrent};
 
 fn copy(from: &[u32], to: &mut [u32])
     requires { ⌜ length (now from) ≡ length (now to) ⌝ }

@@ -20,7 +20,7 @@ ghost use Rattle.model.specs.Lists.{all, upTo};
 ghost use Rattle.model.specs.Refusal.{freeBlock};
 ghost use Rattle.model.specs.Valid.{Lists, bufferLists, poolLists, gettingTask, receivingTask, firstSender};
 ghost use Rattle.state.specs.Words.{wordCount, kernel};
-ghost use Rattle.valid.specs.Waiters.{noSender};
+ghost use Rattle.valid.specs.Parts.{noSender};
 
 // Whether a pool has no free block. A state may say any count; the flags end, and beyond them a block reads as free.
 fn all_taken(state: &[u32], p: PoolNumber) -> bool

@@ -1,13 +1,13 @@
 -- A state copied word after word, and current priorities compared with those worked out afresh, task by task. Assumes nothing.
 use Prim.Native.Nat.{ℕ, zero, suc, _+_, _≤_, _<_}
+use native.Mathlib.Numerals.{add-one}
+use native.Mathlib.Omega.{arith}
 use mathlib.Core.Path.{_≡_, _∙_, refl, sym, ap}
-use mathlib.Core.Bool.{Bool, true, false, _&&_}
-use mathlib.Core.List.{List, [], _∷_, _++_, append-nil, map}
+use mathlib.Core.Bool.{Bool}
+use mathlib.Core.List.{List, [], _∷_, _++_, append-nil}
 use lib.ListN.{length, take, drop, set, length-map, length-set, drop-of-length-le}
 use lib.Seq.{take-all}
 use lib.Dec.{eqb}
-use native.Mathlib.Numerals.{add-one}
-use native.Mathlib.Omega.{arith}
 use borrow.Author.Tests.{eq-eqb}
 use Rattle.model.specs.Sizes.{tasks}
 use Rattle.model.specs.Lists.{_!_, all, countFrom, same, upTo}
@@ -16,9 +16,38 @@ use Rattle.model.specs.Kernel.{Kernel, facts, withTasks, withCurrents}
 use Rattle.model.specs.World.{recompute}
 use Rattle.model.specs.Valid.{Lists, taskLists, currentPriorities}
 use Rattle.model.proofs.ListLaws.{length-countFrom}
+use Rattle.state.specs.Words.{kernel}
+use Rattle.valid.specs.Parts.{sameCurrent}
 
-abbrev pub sameCurrent : Kernel → Kernel → ℕ → Bool
-sameCurrent k l t = eqb (k .tasks .current ! t) (l .tasks .current ! t)
+-- ---- a copy, word after word: the words passed are the first's, the others as they were
+
+copied-more : (n : ℕ) (xs ys : List ℕ) → length xs ≡ length ys → n < length ys → set (take n xs ++ drop n ys) n (xs ! n) ≡ take (suc n) xs ++ drop (suc n) ys
+copied-more n xs [] l h = absurd (omega arith)
+copied-more n [] (y ∷ ys) l h = absurd (omega arith)
+copied-more zero (x ∷ xs) (y ∷ ys) l h = refl
+copied-more (suc n) (x ∷ xs) (y ∷ ys) l h = ap (λ (zs : List ℕ). x ∷ zs) (copied-more n xs ys (omega arith) (omega arith))
+
+pub record Copied (xs ys zs : List ℕ) (n : ℕ) : Type 0 where
+  pub so : zs ≡ take n xs ++ drop n ys
+  pub few : n ≤ length ys
+  pub long : length zs ≡ length ys
+
+pub copy-start : (xs ys : List ℕ) → Copied xs ys ys 0
+copy-start xs ys = record { so = refl; few = omega arith; long = refl }
+
+module _ {xs ys zs : List ℕ} {n : ℕ} (c : Copied xs ys zs n) (l : length xs ≡ length ys) where
+  pub copy-more : n < length ys → Copied xs ys (set zs n (xs ! n)) (n + 1)
+  copy-more h =
+      record {
+        so = ap (λ (us : List ℕ). set us n (xs ! n)) (c .so) ∙ copied-more n xs ys l h ∙ ap (λ (m : ℕ). take m xs ++ drop m ys) (sym (add-one n));
+        few = omega arith;
+        long = length-set zs n (xs ! n) ∙ c .long;
+      }
+
+  pub copy-done : length ys ≤ n → zs ≡ xs
+  copy-done h = c .so ∙ rw (take-all n xs (omega arith), drop-of-length-le ys {i = n} (omega arith)) (append-nil xs)
+
+-- ---- two states' current priorities
 
 -- two lists of one length are the same if their entries are
 entries : (n : ℕ) (xs ys : List ℕ) (get : (i : ℕ) → Bool) → ((i : ℕ) → get (n + i) ≡ eqb (xs ! i) (ys ! i)) → length xs ≡ length ys → all get (countFrom n (length xs)) ≡ same xs ys
@@ -56,35 +85,14 @@ effectives-long : (k : Kernel) → length (effectives (facts k)) ≡ suc tasks
 unfolding effectives
 effectives-long k = ap suc (length-map (upTo tasks) (effective (facts k)) ∙ length-countFrom 1 tasks)
 
-pub afresh-same : (k l : Kernel) → Lists tasks (taskLists k) → l ≡ recompute k → all (sameCurrent k l) (upTo tasks) ≡ currentPriorities k
+-- the words are copied, priorities are worked out on the copy, and both are compared
+pub afresh-long : (w copy : List ℕ) (n : ℕ) → copy ≡ w → length w ≡ n → length copy ≡ n
+afresh-long w copy n e h = ap length e ∙ h
+
+pub afresh-same : (w copy : List ℕ) (afresh : Kernel) (r : Bool) → Lists tasks (taskLists (kernel w)) → copy ≡ w → afresh ≡ recompute (kernel copy)
+    → r ≡ all (sameCurrent (kernel w) afresh) (upTo tasks) → r ≡ currentPriorities (kernel w)
 unfolding currentPriorities recompute withCurrents withTasks effectives
-afresh-same k l h e =
-    rw e
-    (by-task (k .tasks .current) (effectives (facts k)) (h .2 .2 .2 .2 .2 .0) (effectives-long k) (h .2 .2 .2 .2 .2 .1) refl)
-
--- ---- a copy, word after word: the words passed are the first's, the others as they were
-
-copied-more : (n : ℕ) (xs ys : List ℕ) → length xs ≡ length ys → n < length ys → set (take n xs ++ drop n ys) n (xs ! n) ≡ take (suc n) xs ++ drop (suc n) ys
-copied-more n xs [] l h = absurd (omega arith)
-copied-more n [] (y ∷ ys) l h = absurd (omega arith)
-copied-more zero (x ∷ xs) (y ∷ ys) l h = refl
-copied-more (suc n) (x ∷ xs) (y ∷ ys) l h = ap (λ (zs : List ℕ). x ∷ zs) (copied-more n xs ys (omega arith) (omega arith))
-
-pub record Copied (xs ys zs : List ℕ) (n : ℕ) : Type 0 where
-  pub so : zs ≡ take n xs ++ drop n ys
-  pub few : n ≤ length ys
-  pub long : length zs ≡ length ys
-
-pub copy-start : (xs ys : List ℕ) → Copied xs ys ys 0
-copy-start xs ys = record { so = refl; few = omega arith; long = refl }
-
-pub copy-more : (xs ys zs : List ℕ) (n : ℕ) → length xs ≡ length ys → n < length ys → Copied xs ys zs n → Copied xs ys (set zs n (xs ! n)) (n + 1)
-copy-more xs ys zs n l h c =
-    record {
-      so = ap (λ (us : List ℕ). set us n (xs ! n)) (c .so) ∙ copied-more n xs ys l h ∙ ap (λ (m : ℕ). take m xs ++ drop m ys) (sym (add-one n));
-      few = omega arith;
-      long = length-set zs n (xs ! n) ∙ c .long;
-    }
-
-pub copy-done : (xs ys zs : List ℕ) (n : ℕ) → length xs ≡ length ys → length ys ≤ n → Copied xs ys zs n → zs ≡ xs
-copy-done xs ys zs n l h c = c .so ∙ rw (take-all n xs (omega arith), drop-of-length-le ys {i = n} (omega arith)) (append-nil xs)
+afresh-same w copy afresh r h e f q =
+    let k = kernel w in
+    let current = h .2 .2 .2 .2 .2 in
+    q ∙ rw (f, e) (by-task (k .tasks .current) (effectives (facts k)) (current .0) (effectives-long k) (current .1) refl)
