@@ -1,3 +1,1 @@
-pub mod Bytes
 pub mod Messages
-pub mod Outbox

@@ -4,31 +4,31 @@ use native.Mathlib.Decide.{decLe, ℕ-discrete}
 use native.Mathlib.Omega.{arith}
 use mathlib.Core.Path.{_≡_, _∙_, refl, sym, ap}
 use mathlib.Core.Logic.{_≢_, _⊎_, inl, inr}
-use mathlib.Core.Bool.{Bool, true, false, _||_, not, cond}
+use mathlib.Core.Bool.{Bool, true, false, _||_, cond}
 use mathlib.Core.List.{List, [], _∷_}
-use lib.ListN.{length, drop, List·getD-eq-default}
+use lib.ListN.{length, List·getD-eq-default}
 use lib.Dec.{eqb, ltb}
 use lib.IntN.{ℤ, pos, negsuc}
-use borrow.Author.Tests.{eqb-true, eq-eqb, eqb-false, ne-eqb, lt-ltb, le-ltb, not-true, not-false}
+use borrow.Author.Tests.{eqb-true, eq-eqb, eqb-false, lt-ltb, le-ltb}
 use Rattle.model.specs.Sizes.{tasks, mutexes, buffers, pools}
 use Rattle.model.specs.Lists.{_!_}
 use Rattle.model.specs.Kernel.{numbered}
 use Rattle.model.specs.Code.{number}
-use Rattle.model.specs.Number.{wordNumber, fieldNumber, maybeTask, taskWord, maybeMutex, mutexWord, maybeBuffer, bufferWord, maybePool, poolWord}
+use Rattle.model.specs.Number.{wordNumber, fieldNumber, maybeTask, maybeMutex, maybeBuffer, maybePool}
 use Rattle.model.specs.Refusal.{outside}
 use Rattle.model.proofs.ListLaws.{or-right}
 use Rattle.model.specs.declared.number.TaskNumber.{TaskNumber}
 use Rattle.model.specs.declared.number.MaybeTask.{MaybeTask}
-use Rattle.model.specs.declared.number.MaybeTask as mTask
+use Rattle.model.specs.declared.number.MaybeTask.the-variants.{Task, Nothing as NoTask}
 use Rattle.model.specs.declared.number.MutexNumber.{MutexNumber}
 use Rattle.model.specs.declared.number.MaybeMutex.{MaybeMutex}
-use Rattle.model.specs.declared.number.MaybeMutex as mMutex
+use Rattle.model.specs.declared.number.MaybeMutex.the-variants.{Mutex, Nothing as NoMutex}
 use Rattle.model.specs.declared.number.BufferNumber.{BufferNumber}
 use Rattle.model.specs.declared.number.MaybeBuffer.{MaybeBuffer}
-use Rattle.model.specs.declared.number.MaybeBuffer as mBuffer
+use Rattle.model.specs.declared.number.MaybeBuffer.the-variants.{Buffer, Nothing as NoBuffer}
 use Rattle.model.specs.declared.number.PoolNumber.{PoolNumber}
 use Rattle.model.specs.declared.number.MaybePool.{MaybePool}
-use Rattle.model.specs.declared.number.MaybePool as mPool
+use Rattle.model.specs.declared.number.MaybePool.the-variants.{Pool, Nothing as NoPool}
 
 -- a word is a number up to the last, or it names nothing
 abbrev pub Names : ℕ → ℕ → ℕ → Type 0
@@ -37,12 +37,14 @@ Names last u n = (n ≡ u) × (1 ≤ u) × (u ≤ last)
 abbrev pub NamesNone : ℕ → ℕ → Type 0
 NamesNone last u = (u ≡ 0) ⊎ (last < u)
 
-word-cases : (last u : ℕ) → ((wordNumber u last ≡ u) × (1 ≤ u) × (u ≤ last)) ⊎ ((wordNumber u last ≡ 0) × NamesNone last u)
+abbrev WordCases : ℕ → ℕ → Type 0
+WordCases last u = Names last u (wordNumber u last) ⊎ ((wordNumber u last ≡ 0) × NamesNone last u)
+
+word-cases : (last u : ℕ) → WordCases last u
 unfolding wordNumber
 word-cases last u = go (ℕ-discrete u 0) (decLe u last)
   where
-    go : Dec (u ≡ 0) → Dec (u ≤ last)
-        → ((cond (ltb last u) 0 u ≡ u) × (1 ≤ u) × (u ≤ last)) ⊎ ((cond (ltb last u) 0 u ≡ 0) × NamesNone last u)
+    go : Dec (u ≡ 0) → Dec (u ≤ last) → Names last u (cond (ltb last u) 0 u) ⊎ ((cond (ltb last u) 0 u ≡ 0) × NamesNone last u)
     go (yes e) d = inr (rw (e, le-ltb last 0 (omega arith)), inl e)
     go (no n) (yes h) = inl (rw (le-ltb last u h), omega arith, h)
     go (no n) (no h) = inr (rw (lt-ltb last u (omega arith)), inr (omega arith))
@@ -68,7 +70,7 @@ unfolding fieldNumber
 field-inside last (negsuc n) h = absurd (h refl)
 field-inside last (pos n) h = go (word-cases last n)
   where
-    go : ((wordNumber n last ≡ n) × (1 ≤ n) × (n ≤ last)) ⊎ ((wordNumber n last ≡ 0) × NamesNone last n) → (ltb n 1 || ltb last n ≡ false) × (n ≡ wordNumber n last)
+    go : WordCases last n → (ltb n 1 || ltb last n ≡ false) × (n ≡ wordNumber n last)
     go (inl q) = (rw (le-ltb n 1 (q .1), le-ltb last n (q .2)), sym (q .0))
     go (inr q) = absurd (h (q .0))
 
@@ -81,167 +83,167 @@ field-outside last (pos n) e = go (word-cases last n)
     beyond (inl z) = rw (lt-ltb n 1 (omega arith))
     beyond (inr l) = or-right (ltb n 1) (ltb last n) (lt-ltb last n l)
 
-    go : ((wordNumber n last ≡ n) × (1 ≤ n) × (n ≤ last)) ⊎ ((wordNumber n last ≡ 0) × NamesNone last n) → ltb n 1 || ltb last n ≡ true
+    go : WordCases last n → ltb n 1 || ltb last n ≡ true
     go (inl q) = absurd (let z = q .0 in let o = q .1 in omega arith)
     go (inr q) = beyond (q .1)
 
--- ---- the enums of numbers, all of one make: nothing, or something with its number
+-- ---- the kinds of numbers, all of one make: from 1 to a last one, and an enum of nothing, or something with its number
 
-record Kind (A : Type 0) : Type 0 where
-  none : A
-  some : ℕ → A
-  there : A → Bool
-  word : A → ℕ
-  none-there : there none ≡ false
-  some-there : (n : ℕ) → there (some n) ≡ true
-  none-word : word none ≡ 0
-  some-word : (n : ℕ) → word (some n) ≡ n
+pub record Kind (A : Type 0) : Type 0 where
+  pub last : ℕ
+  pub none : A
+  pub some : ℕ → A
+  -- what a number makes
+  pub make : ℕ → A
+  pub made : (n : ℕ) → make n ≡ cond (eqb n 0) none (some n)
+  -- a number for each: 0 for nothing, else one more than its own
+  pub code : A → ℕ
+  pub none-code : code none ≡ 0
+  pub some-code : (n : ℕ) → code (some n) ≡ suc n
 
-abbrev kindOf : {A : Type 0} (none : A) (some : ℕ → A) (there : A → Bool) (word : A → ℕ)
-    → there none ≡ false → ((n : ℕ) → there (some n) ≡ true) → word none ≡ 0 → ((n : ℕ) → word (some n) ≡ n) → Kind A
-kindOf none some there word a b c d =
-    record { none = none; some = some; there = there; word = word; none-there = a; some-there = b; none-word = c; some-word = d }
-
-module _ {A : Type 0} (kind : Kind A) where
-  abbrev maybe : ℕ → A
-  maybe n = cond (eqb n 0) (kind .none) (kind .some n)
-
-  tells : (n : ℕ) → kind .there (maybe n) ≡ not (eqb n 0)
-  tells n = go (eqb n 0)
-    where
-      go : (b : Bool) → kind .there (cond b (kind .none) (kind .some n)) ≡ not b
-      go true = kind .none-there
-      go false = kind .some-there n
-
-  says : (n : ℕ) → kind .word (maybe n) ≡ n
-  says n = go (eqb n 0) refl
-    where
-      go : (b : Bool) → eqb n 0 ≡ b → kind .word (cond b (kind .none) (kind .some n)) ≡ n
-      go true e = kind .none-word ∙ sym (eqb-true n 0 e)
-      go false e = kind .some-word n
-
+module _ {A : Type 0} (kind : Kind A) {found : A} where
   -- what the number was that it was made from
-  is-some : (n : ℕ) (x : A) → maybe n ≡ x → kind .there x ≡ true → (kind .word x ≡ n) × (n ≢ 0)
-  is-some n x e h = (ap (kind .word) (sym e) ∙ says n, eqb-false n 0 (not-true _ (sym (tells n) ∙ ap (kind .there) e ∙ h)))
+  module _ {n : ℕ} (made : found ≡ kind .make n) where
+    coded : kind .code found ≡ kind .code (cond (eqb n 0) (kind .none) (kind .some n))
+    coded = ap (kind .code) (made ∙ kind .made n)
 
-  is-none : (n : ℕ) (x : A) → maybe n ≡ x → kind .there x ≡ false → n ≡ 0
-  is-none n x e h = eqb-true n 0 (not-false _ (sym (tells n) ∙ ap (kind .there) e ∙ h))
+    pub is-some : {x : ℕ} → found ≡ kind .some x → (x ≡ n) × (n ≢ 0)
+    is-some {x} e = go (eqb n 0) refl (sym coded ∙ ap (kind .code) e ∙ kind .some-code x)
+      where
+        go : (b : Bool) → eqb n 0 ≡ b → kind .code (cond b (kind .none) (kind .some n)) ≡ suc x → (x ≡ n) × (n ≢ 0)
+        go true f q = absurd (omega (arith, sym (kind .none-code) ∙ q))
+        go false f q = (omega (arith, sym (kind .some-code n) ∙ q), eqb-false n 0 f)
 
-  -- the same of a number made from a word
-  word-some : (last u : ℕ) (x : A) → maybe (wordNumber u last) ≡ x → kind .there x ≡ true → Names last u (kind .word x)
-  word-some last u x e h = go (is-some (wordNumber u last) x e h) (word-cases last u)
-    where
-      go : (kind .word x ≡ wordNumber u last) × (wordNumber u last ≢ 0) → ((wordNumber u last ≡ u) × (1 ≤ u) × (u ≤ last)) ⊎ ((wordNumber u last ≡ 0) × NamesNone last u) → Names last u (kind .word x)
-      go q (inl w) = (q .0 ∙ w .0, w .1, w .2)
-      go q (inr w) = absurd (q .1 (w .0))
+    pub is-none : found ≡ kind .none → n ≡ 0
+    is-none e = go (eqb n 0) refl (sym coded ∙ ap (kind .code) e ∙ kind .none-code)
+      where
+        go : (b : Bool) → eqb n 0 ≡ b → kind .code (cond b (kind .none) (kind .some n)) ≡ 0 → n ≡ 0
+        go true f q = eqb-true n 0 f
+        go false f q = absurd (omega (arith, sym (kind .some-code n) ∙ q))
 
-  word-none : (last u : ℕ) (x : A) → maybe (wordNumber u last) ≡ x → kind .there x ≡ false → NamesNone last u
-  word-none last u x e h = go (is-none (wordNumber u last) x e h) (word-cases last u)
-    where
-      go : wordNumber u last ≡ 0 → ((wordNumber u last ≡ u) × (1 ≤ u) × (u ≤ last)) ⊎ ((wordNumber u last ≡ 0) × NamesNone last u) → NamesNone last u
-      go q (inl w) = inl (sym (w .0) ∙ q)
-      go q (inr w) = w .1
+  -- the same of a word
+  module _ {u : ℕ} (made : found ≡ kind .make (wordNumber u (kind .last))) where
+    pub named : {x : ℕ} → found ≡ kind .some x → Names (kind .last) u x
+    named {x} e = go (is-some made e) (word-cases (kind .last) u)
+      where
+        go : (x ≡ wordNumber u (kind .last)) × (wordNumber u (kind .last) ≢ 0) → WordCases (kind .last) u → Names (kind .last) u x
+        go q (inl w) = (q .0 ∙ w .0, w .1, w .2)
+        go q (inr w) = absurd (q .1 (w .0))
 
--- ---- tasks
+    pub unnamed : found ≡ kind .none → NamesNone (kind .last) u
+    unnamed e = go (is-none made e) (word-cases (kind .last) u)
+      where
+        go : wordNumber u (kind .last) ≡ 0 → WordCases (kind .last) u → NamesNone (kind .last) u
+        go q (inl w) = inl (sym (w .0) ∙ q)
+        go q (inr w) = w .1
 
-abbrev taskThere : MaybeTask → Bool
-taskThere mTask.the-variants.Nothing = false
-taskThere (mTask.the-variants.Task n) = true
+    -- every number from 1 to the last names something
+    pub never-unnamed : 1 ≤ u → u ≤ kind .last → found ≡ kind .none → ⊥
+    never-unnamed low high e = go (unnamed e)
+      where
+        go : NamesNone (kind .last) u → ⊥
+        go (inl z) = omega arith
+        go (inr l) = omega arith
 
-abbrev taskKind : Kind MaybeTask
-taskKind = kindOf mTask.the-variants.Nothing (λ n. mTask.the-variants.Task (record { 0 = n })) taskThere taskWord refl (λ n. refl) refl (λ n. refl)
-
-pub task-is : (n : ℕ) (x : TaskNumber) → maybeTask n ≡ mTask.the-variants.Task x → (x .0 ≡ n) × (n ≢ 0)
+pub task-made : (n : ℕ) → maybeTask n ≡ cond (eqb n 0) NoTask (Task (record { 0 = n }))
 unfolding maybeTask
-task-is n x e = is-some taskKind n (mTask.the-variants.Task x) e refl
+task-made n = refl
 
-pub task-is-none : (n : ℕ) → maybeTask n ≡ mTask.the-variants.Nothing → n ≡ 0
-unfolding maybeTask
-task-is-none n e = is-none taskKind n mTask.the-variants.Nothing e refl
+abbrev pub taskKind : Kind MaybeTask
+taskKind =
+    record {
+      last = tasks;
+      none = NoTask;
+      some = λ n. Task (record { 0 = n });
+      make = maybeTask;
+      made = task-made;
+      code = λ x. elim x [ NoTask ↦ 0 | Task n ↦ suc (n .0) ];
+      none-code = refl;
+      some-code = λ n. refl;
+    }
 
-pub task-there : (u : ℕ) (x : TaskNumber) → maybeTask (wordNumber u tasks) ≡ mTask.the-variants.Task x → Names tasks u (x .0)
-unfolding maybeTask
-task-there u x e = word-some taskKind tasks u (mTask.the-variants.Task x) e refl
-
-pub task-none : (u : ℕ) → maybeTask (wordNumber u tasks) ≡ mTask.the-variants.Nothing → NamesNone tasks u
-unfolding maybeTask
-task-none u e = word-none taskKind tasks u mTask.the-variants.Nothing e refl
-
--- ---- mutexes
-
-abbrev mutexThere : MaybeMutex → Bool
-mutexThere mMutex.the-variants.Nothing = false
-mutexThere (mMutex.the-variants.Mutex n) = true
-
-abbrev mutexKind : Kind MaybeMutex
-mutexKind = kindOf mMutex.the-variants.Nothing (λ n. mMutex.the-variants.Mutex (record { 0 = n })) mutexThere mutexWord refl (λ n. refl) refl (λ n. refl)
-
-pub mutex-is : (n : ℕ) (x : MutexNumber) → maybeMutex n ≡ mMutex.the-variants.Mutex x → (x .0 ≡ n) × (n ≢ 0)
+pub mutex-made : (n : ℕ) → maybeMutex n ≡ cond (eqb n 0) NoMutex (Mutex (record { 0 = n }))
 unfolding maybeMutex
-mutex-is n x e = is-some mutexKind n (mMutex.the-variants.Mutex x) e refl
+mutex-made n = refl
 
-pub mutex-is-none : (n : ℕ) → maybeMutex n ≡ mMutex.the-variants.Nothing → n ≡ 0
-unfolding maybeMutex
-mutex-is-none n e = is-none mutexKind n mMutex.the-variants.Nothing e refl
+abbrev pub mutexKind : Kind MaybeMutex
+mutexKind =
+    record {
+      last = mutexes;
+      none = NoMutex;
+      some = λ n. Mutex (record { 0 = n });
+      make = maybeMutex;
+      made = mutex-made;
+      code = λ x. elim x [ NoMutex ↦ 0 | Mutex n ↦ suc (n .0) ];
+      none-code = refl;
+      some-code = λ n. refl;
+    }
 
-pub mutex-there : (u : ℕ) (x : MutexNumber) → maybeMutex (wordNumber u mutexes) ≡ mMutex.the-variants.Mutex x → Names mutexes u (x .0)
-unfolding maybeMutex
-mutex-there u x e = word-some mutexKind mutexes u (mMutex.the-variants.Mutex x) e refl
-
-pub mutex-none : (u : ℕ) → maybeMutex (wordNumber u mutexes) ≡ mMutex.the-variants.Nothing → NamesNone mutexes u
-unfolding maybeMutex
-mutex-none u e = word-none mutexKind mutexes u mMutex.the-variants.Nothing e refl
-
--- ---- buffers
-
-abbrev bufferThere : MaybeBuffer → Bool
-bufferThere mBuffer.the-variants.Nothing = false
-bufferThere (mBuffer.the-variants.Buffer n) = true
-
-abbrev bufferKind : Kind MaybeBuffer
-bufferKind = kindOf mBuffer.the-variants.Nothing (λ n. mBuffer.the-variants.Buffer (record { 0 = n })) bufferThere bufferWord refl (λ n. refl) refl (λ n. refl)
-
-pub buffer-is : (n : ℕ) (x : BufferNumber) → maybeBuffer n ≡ mBuffer.the-variants.Buffer x → (x .0 ≡ n) × (n ≢ 0)
+pub buffer-made : (n : ℕ) → maybeBuffer n ≡ cond (eqb n 0) NoBuffer (Buffer (record { 0 = n }))
 unfolding maybeBuffer
-buffer-is n x e = is-some bufferKind n (mBuffer.the-variants.Buffer x) e refl
+buffer-made n = refl
 
-pub buffer-is-none : (n : ℕ) → maybeBuffer n ≡ mBuffer.the-variants.Nothing → n ≡ 0
-unfolding maybeBuffer
-buffer-is-none n e = is-none bufferKind n mBuffer.the-variants.Nothing e refl
+abbrev pub bufferKind : Kind MaybeBuffer
+bufferKind =
+    record {
+      last = buffers;
+      none = NoBuffer;
+      some = λ n. Buffer (record { 0 = n });
+      make = maybeBuffer;
+      made = buffer-made;
+      code = λ x. elim x [ NoBuffer ↦ 0 | Buffer n ↦ suc (n .0) ];
+      none-code = refl;
+      some-code = λ n. refl;
+    }
 
-pub buffer-there : (u : ℕ) (x : BufferNumber) → maybeBuffer (wordNumber u buffers) ≡ mBuffer.the-variants.Buffer x → Names buffers u (x .0)
-unfolding maybeBuffer
-buffer-there u x e = word-some bufferKind buffers u (mBuffer.the-variants.Buffer x) e refl
-
-pub buffer-none : (u : ℕ) → maybeBuffer (wordNumber u buffers) ≡ mBuffer.the-variants.Nothing → NamesNone buffers u
-unfolding maybeBuffer
-buffer-none u e = word-none bufferKind buffers u mBuffer.the-variants.Nothing e refl
-
--- ---- pools
-
-abbrev poolThere : MaybePool → Bool
-poolThere mPool.the-variants.Nothing = false
-poolThere (mPool.the-variants.Pool n) = true
-
-abbrev poolKind : Kind MaybePool
-poolKind = kindOf mPool.the-variants.Nothing (λ n. mPool.the-variants.Pool (record { 0 = n })) poolThere poolWord refl (λ n. refl) refl (λ n. refl)
-
-pub pool-is : (n : ℕ) (x : PoolNumber) → maybePool n ≡ mPool.the-variants.Pool x → (x .0 ≡ n) × (n ≢ 0)
+pub pool-made : (n : ℕ) → maybePool n ≡ cond (eqb n 0) NoPool (Pool (record { 0 = n }))
 unfolding maybePool
-pool-is n x e = is-some poolKind n (mPool.the-variants.Pool x) e refl
+pool-made n = refl
 
-pub pool-is-none : (n : ℕ) → maybePool n ≡ mPool.the-variants.Nothing → n ≡ 0
-unfolding maybePool
-pool-is-none n e = is-none poolKind n mPool.the-variants.Nothing e refl
+abbrev pub poolKind : Kind MaybePool
+poolKind =
+    record {
+      last = pools;
+      none = NoPool;
+      some = λ n. Pool (record { 0 = n });
+      make = maybePool;
+      made = pool-made;
+      code = λ x. elim x [ NoPool ↦ 0 | Pool n ↦ suc (n .0) ];
+      none-code = refl;
+      some-code = λ n. refl;
+    }
 
-pub pool-there : (u : ℕ) (x : PoolNumber) → maybePool (wordNumber u pools) ≡ mPool.the-variants.Pool x → Names pools u (x .0)
-unfolding maybePool
-pool-there u x e = word-some poolKind pools u (mPool.the-variants.Pool x) e refl
+-- ---- the same, each kind by its name
 
-pub pool-none : (u : ℕ) → maybePool (wordNumber u pools) ≡ mPool.the-variants.Nothing → NamesNone pools u
-unfolding maybePool
-pool-none u e = word-none poolKind pools u mPool.the-variants.Nothing e refl
+pub task-is : (n : ℕ) (x : TaskNumber) → maybeTask n ≡ Task x → (x .0 ≡ n) × (n ≢ 0)
+task-is n x e = is-some taskKind refl e
 
-pub task-zero : (n : ℕ) → n ≡ 0 → maybeTask n ≡ mTask.the-variants.Nothing
-unfolding maybeTask
-task-zero n e = rw (eq-eqb n 0 e)
+pub task-is-none : (n : ℕ) → maybeTask n ≡ NoTask → n ≡ 0
+task-is-none n e = is-none taskKind refl e
+
+pub task-zero : (n : ℕ) → n ≡ 0 → maybeTask n ≡ NoTask
+task-zero n e = task-made n ∙ rw (eq-eqb n 0 e)
+
+pub task-there : (u : ℕ) (x : TaskNumber) → maybeTask (wordNumber u tasks) ≡ Task x → Names tasks u (x .0)
+task-there u x e = named taskKind refl e
+
+pub task-none : (u : ℕ) → maybeTask (wordNumber u tasks) ≡ NoTask → NamesNone tasks u
+task-none u e = unnamed taskKind refl e
+
+pub mutex-there : (u : ℕ) (x : MutexNumber) → maybeMutex (wordNumber u mutexes) ≡ Mutex x → Names mutexes u (x .0)
+mutex-there u x e = named mutexKind refl e
+
+pub mutex-none : (u : ℕ) → maybeMutex (wordNumber u mutexes) ≡ NoMutex → NamesNone mutexes u
+mutex-none u e = unnamed mutexKind refl e
+
+pub buffer-there : (u : ℕ) (x : BufferNumber) → maybeBuffer (wordNumber u buffers) ≡ Buffer x → Names buffers u (x .0)
+buffer-there u x e = named bufferKind refl e
+
+pub buffer-none : (u : ℕ) → maybeBuffer (wordNumber u buffers) ≡ NoBuffer → NamesNone buffers u
+buffer-none u e = unnamed bufferKind refl e
+
+pub pool-there : (u : ℕ) (x : PoolNumber) → maybePool (wordNumber u pools) ≡ Pool x → Names pools u (x .0)
+pool-there u x e = named poolKind refl e
+
+pub pool-none : (u : ℕ) → maybePool (wordNumber u pools) ≡ NoPool → NamesNone pools u
+pool-none u e = unnamed poolKind refl e

@@ -19,8 +19,7 @@ use Rattle.model.specs.Words.{wordCount, sizes, fields, kernel}
 use Rattle.state.specs.Words.{withArrival, Represents}
 use Rattle.state.proofs.WordLaws.{arrivals-long, sized, size-of}
 use Rattle.model.specs.Field as field
-use Rattle.queue.specs.Arriving.{Kept, Gathered, clearedFrom}
-use Rattle.queue.proofs.ArrivingLaws.{other, keptArrivals, keptCount}
+use Rattle.queue.specs.Arriving.{Kept, Gathered, clearedFrom, other, keptArrivals, keptCount}
 use Rattle.queue.proofs.Gather.{gathered, count, gathered-start, count-start, gathered-step, gathered-all, count-step, count-all, count-le, set-seam, cleared, departed-is, arrived-is}
 
 -- ---- when each step does that

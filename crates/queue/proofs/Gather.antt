@@ -12,7 +12,7 @@ use lib.Seq.{take-suc, drop-cons, getD-append-add, getD-drop, take-length, take-
 use lib.Dec.{eqb}
 use Rattle.model.specs.Lists.{_!_, keep, select, padded, zeros}
 use Rattle.model.specs.Kernel.{Kernel, others, departed, arrived, withArrivals}
-use Rattle.queue.proofs.ArrivingLaws.{other, keptArrivals, keptCount}
+use Rattle.queue.specs.Arriving.{other, keptArrivals, keptCount}
 use Rattle.queue.proofs.ArrivalLaws.{select-append, length-others, padded-is}
 
 -- a store right behind a list, and behind all

@@ -1,15 +1,15 @@
 -- The statements and the tests of validity agree, clause by clause. Assumes nothing.
-use Prim.Native.Nat.{ℕ, zero, suc, _+_, _*_, _-_, _≤_, _<_}
+use Prim.Native.Nat.{ℕ, suc, _*_, _-_, _≤_, _<_}
 use native.Mathlib.Omega.{arith}
-use mathlib.Core.Path.{_≡_, _∙_, refl, sym, ap, subst}
-use mathlib.Core.Logic.{_≢_, _⊎_, inl, inr, _↔_}
-use mathlib.Core.Bool.{Bool, true, false, _&&_, _||_, not}
+use mathlib.Core.Path.{_≡_, refl, sym}
+use mathlib.Core.Logic.{_≢_, inl, inr}
+use mathlib.Core.Bool.{Bool, true, false, _&&_, not}
 use mathlib.Core.List.{List, [], _∷_}
 use lib.ListN.{length, drop, length-take, length-drop}
-use lib.Dec.{eqb, leb, ltb}
+use lib.Dec.{eqb, leb}
 use borrow.Author.Tests.{eqb-false, ne-eqb}
 use Rattle.model.specs.Sizes.{tasks, priorities, mutexes, buffers, pools, blocks, messageBytes, regionBytes, blockBytes, poolBytes, storeBytes, outboxBytes, longest, endless}
-use Rattle.model.specs.Lists.{_!_, upTo, countFrom, all, member, occurrences, same, implies, within, padded, select}
+use Rattle.model.specs.Lists.{_!_, upTo, countFrom, all, member, occurrences, implies, padded, select}
 use Rattle.model.specs.Facts.{absent, dormant, ready, locking, sending, receiving, getting, ceilinged}
 use Rattle.model.specs.Priority.{effectives}
 use Rattle.model.specs.Kernel.{Kernel, facts, slot}
@@ -17,9 +17,9 @@ use Rattle.model.specs.World.{Lent}
 use Rattle.model.specs.Message.{part, region}
 use Rattle.model.specs.Act.{firstFits}
 use Rattle.model.specs.Refusal.{aboveCeiling, freeBlock, poolSum, mutexAttributes, bufferAttributes, poolAttributes}
-use Rattle.model.specs.Valid.{From, Each, taskLists, mutexLists, bufferLists, poolLists, Lists, lists, Lengths, lengths, TaskRange, taskRange, MutexRange, mutexRange, BufferRange, bufferRange, PoolRange, poolRange, BlockFlag, blockFlag, Argument, argument, Wait, waitFields, awaitable, Arrivals, arrivals, Priorities, currentPriorities, Ceiling, ceiling, Locking, lockingTask, Getting, gettingTask, Receiving, receivingTask, FirstSender, firstSender, Outbox, outboxPart, RegionLayout, regionLayout, Valid, valid}
+use Rattle.model.specs.Valid.{Each, taskLists, mutexLists, bufferLists, poolLists, ByNumber, TaskLists, MutexLists, BufferLists, PoolLists, lists, Lengths, lengths, TaskRange, taskRange, MutexRange, mutexRange, BufferRange, bufferRange, PoolRange, poolRange, BlockFlag, blockFlag, Argument, argument, Wait, waitFields, awaitable, Arrivals, arrivals, Priorities, currentPriorities, Ceiling, ceiling, Locking, lockingTask, Getting, gettingTask, Receiving, receivingTask, FirstSender, firstSender, Outbox, outboxPart, RegionLayout, regionLayout, Valid, valid}
 use Rattle.message.proofs.Layouts.{layout-valid, valid-layout}
-use Rattle.valid.specs.Tests.{Agrees, and-agrees, or-agrees, implies-agrees, not-agrees, and3, and4, and5, eq-agrees, ne-agrees, le-agrees, lt-agrees, within-agrees, each-agrees, each-within, then-agrees, to-agrees, entries-agree, same-agrees, none-agrees, zero-agrees}
+use Rattle.valid.specs.Tests.{Agrees, and-agrees, or-agrees, implies-agrees, and3, and4, and5, eq-agrees, ne-agrees, le-agrees, lt-agrees, within-agrees, each-agrees, each-within, then-agrees, to-agrees, entries-agree, same-agrees, none-agrees, zero-agrees}
 
 -- a test that is itself the statement
 itself : (b : Bool) → Agrees b (b ≡ true)
@@ -31,16 +31,56 @@ fails false = ((λ e. refl), (λ e. refl))
 
 -- ---- lists and lengths
 
-pub lists-agree : (n : ℕ) (xs : List (List ℕ)) → Agrees (lists n xs) (Lists n xs)
-lists-agree n [] = ((λ e. tt), (λ e. refl))
-lists-agree n (x ∷ xs) =
-    let k = and-agrees (eqb (length x) (suc n) && eqb (x ! 0) 0) (lists n xs) (and-agrees _ _ (eq-agrees (length x) (suc n)) (eq-agrees (x ! 0) 0)) (lists-agree n xs) in
-    ((λ e. let q = k .0 e in (q .0 .0, q .0 .1, q .1)), (λ q. k .1 ((q .0, q .1), q .2)))
+-- every list of a kind, one after the other
+abbrev EachList : ℕ → List (List ℕ) → Type 0
+EachList n [] = Unit
+EachList n (x ∷ xs) = ByNumber n x × EachList n xs
+
+by-number : (n : ℕ) (x : List ℕ) → Agrees (eqb (length x) (suc n) && eqb (x ! 0) 0) (ByNumber n x)
+by-number n x =
+    let a = and-agrees _ _ (eq-agrees (length x) (suc n)) (eq-agrees (x ! 0) 0) in
+    ((λ e. let (long, zero) = a .0 e in record { long = long; noneZero = zero }), (λ l. a .1 (l .long, l .noneZero)))
+
+each-list : (n : ℕ) (xs : List (List ℕ)) → Agrees (lists n xs) (EachList n xs)
+each-list n [] = ((λ e. tt), (λ e. refl))
+each-list n (x ∷ xs) = and-agrees (eqb (length x) (suc n) && eqb (x ! 0) 0) (lists n xs) (by-number n x) (each-list n xs)
+
+module _ (k : Kernel) where
+  pub task-lists : Agrees (lists tasks (taskLists k)) (TaskLists (k .tasks))
+  task-lists =
+      let a = each-list tasks (taskLists k) in (
+        (λ e. let (p, (o, (g, (i, (b, (c, (l, u))))))) = a .0 e in record { place = p; object = o; argument = g; initial = i; base = b; current = c; left = l }),
+        (λ x. a .1 (x .place, (x .object, (x .argument, (x .initial, (x .base, (x .current, (x .left, tt)))))))),
+      )
+
+  pub mutex-lists : Agrees (lists mutexes (mutexLists k)) (MutexLists (k .mutexes))
+  mutex-lists =
+      let a = each-list mutexes (mutexLists k) in (
+        (λ e. let (x, (t, (c, (h, u)))) = a .0 e in record { exists = x; attribute = t; ceiling = c; holder = h }),
+        (λ x. a .1 (x .exists, (x .attribute, (x .ceiling, (x .holder, tt))))),
+      )
+
+  pub buffer-lists : Agrees (lists buffers (bufferLists k)) (BufferLists (k .buffers))
+  buffer-lists =
+      let a = each-list buffers (bufferLists k) in (
+        (λ e. let (x, (t, (b, (m, (d, u))))) = a .0 e in record { exists = x; attribute = t; bufsz = b; maxmsz = m; used = d }),
+        (λ x. a .1 (x .exists, (x .attribute, (x .bufsz, (x .maxmsz, (x .used, tt)))))),
+      )
+
+  pub pool-lists : Agrees (lists pools (poolLists k)) (PoolLists (k .pools))
+  pool-lists =
+      let a = each-list pools (poolLists k) in (
+        (λ e. let (x, (t, (c, (z, u)))) = a .0 e in record { exists = x; attribute = t; count = c; size = z }),
+        (λ x. a .1 (x .exists, (x .attribute, (x .count, (x .size, tt))))),
+      )
 
 pub lengths-agree : (x : Lent) → Agrees (lengths x) (Lengths x)
 lengths-agree x =
+    let a =
     and4 _ _ _ _ (eq-agrees (length (x .kernel .arrivals)) tasks) (eq-agrees (length (x .kernel .pools .taken)) (suc pools * suc blocks))
     (eq-agrees (length (x .store)) storeBytes) (eq-agrees (length (x .outbox)) outboxBytes)
+    in
+    ((λ e. let (r, t, s, o) = a .0 e in record { arrivals = r; taken = t; store = s; outbox = o }), (λ l. a .1 (l .arrivals, l .taken, l .store, l .outbox)))
 
 -- ---- ranges
 
@@ -203,10 +243,10 @@ module _ (x : Lent) where
   pub valid-agrees : Agrees (valid x) (Valid x)
   unfolding valid
   valid-agrees =
-      let c0 = lists-agree tasks (taskLists k) in
-      let c1 = then-agrees _ _ c0 (λ q. lists-agree mutexes (mutexLists k)) in
-      let c2 = then-agrees _ _ c1 (λ q. lists-agree buffers (bufferLists k)) in
-      let c3 = then-agrees _ _ c2 (λ q. lists-agree pools (poolLists k)) in
+      let c0 = task-lists k in
+      let c1 = then-agrees _ _ c0 (λ q. mutex-lists k) in
+      let c2 = then-agrees _ _ c1 (λ q. buffer-lists k) in
+      let c3 = then-agrees _ _ c2 (λ q. pool-lists k) in
       let c4 = then-agrees _ _ c3 (λ q. lengths-agree x) in
       let c5 = then-agrees _ _ c4 (λ q. each-agrees (taskRange k) (TaskRange k) (task-agrees k) tasks) in
       let c6 = then-agrees _ _ c5 (λ q. each-agrees (mutexRange k) (MutexRange k) (mutex-agrees k) mutexes) in
@@ -223,8 +263,6 @@ module _ (x : Lent) where
       let c17 = then-agrees _ _ c16 (λ q. each-agrees (gettingTask k) (Getting k) (getting-agrees k) tasks) in
       let c18 = then-agrees _ _ c17 (λ q. each-agrees (receivingTask k) (Receiving k) (receiving-agrees k) tasks) in
       let c19 = then-agrees _ _ c18 (λ q. each-agrees (firstSender k) (FirstSender k) (sender-agrees k) buffers) in
-      let c20 = then-agrees _ _ c19 (λ q. each-within (regionLayout k (x .store)) (RegionLayout k (x .store)) buffers (λ b low high. layout-agrees k (x .store) (q .0 .0 .0 .0 .0 .0 .0 .0 .0 .0 .0 .0 .0 .0 .0 .1 .2) b low high (q .0 .0 .0 .0 .0 .0 .0 .0 .0 .0 .0 .0 .1 b low high))) in
-      let c21 = then-agrees _ _ c20 (λ q. each-within (outboxPart k (x .outbox)) (Outbox k (x .outbox)) tasks (outbox-agrees k (x .outbox) (q .0 .0 .0 .0 .0 .0 .0 .0 .0 .0 .0 .0 .0 .0 .0 .0 .1 .3))) in (
-        (λ e. let q = c21 .0 e in record { isTaskLists = q .0 .0 .0 .0 .0 .0 .0 .0 .0 .0 .0 .0 .0 .0 .0 .0 .0 .0 .0 .0 .0; isMutexLists = q .0 .0 .0 .0 .0 .0 .0 .0 .0 .0 .0 .0 .0 .0 .0 .0 .0 .0 .0 .0 .1; isBufferLists = q .0 .0 .0 .0 .0 .0 .0 .0 .0 .0 .0 .0 .0 .0 .0 .0 .0 .0 .0 .1; isPoolLists = q .0 .0 .0 .0 .0 .0 .0 .0 .0 .0 .0 .0 .0 .0 .0 .0 .0 .0 .1; isLengths = q .0 .0 .0 .0 .0 .0 .0 .0 .0 .0 .0 .0 .0 .0 .0 .0 .0 .1; isTaskRange = q .0 .0 .0 .0 .0 .0 .0 .0 .0 .0 .0 .0 .0 .0 .0 .0 .1; isMutexRange = q .0 .0 .0 .0 .0 .0 .0 .0 .0 .0 .0 .0 .0 .0 .0 .1; isBufferRange = q .0 .0 .0 .0 .0 .0 .0 .0 .0 .0 .0 .0 .0 .0 .1; isPoolRange = q .0 .0 .0 .0 .0 .0 .0 .0 .0 .0 .0 .0 .0 .1; isBlockFlag = q .0 .0 .0 .0 .0 .0 .0 .0 .0 .0 .0 .0 .1; isPoolSum = q .0 .0 .0 .0 .0 .0 .0 .0 .0 .0 .0 .1; isArgument = q .0 .0 .0 .0 .0 .0 .0 .0 .0 .0 .1; isWait = q .0 .0 .0 .0 .0 .0 .0 .0 .0 .1; isArrivals = q .0 .0 .0 .0 .0 .0 .0 .0 .1; isPriorities = q .0 .0 .0 .0 .0 .0 .0 .1; isCeiling = q .0 .0 .0 .0 .0 .0 .1; isLocking = q .0 .0 .0 .0 .0 .1; isGetting = q .0 .0 .0 .0 .1; isReceiving = q .0 .0 .0 .1; isFirstSender = q .0 .0 .1; isLayout = q .0 .1; isOutbox = q .1 }),
-        (λ v. c21 .1 (((((((((((((((((((((v .isTaskLists, v .isMutexLists), v .isBufferLists), v .isPoolLists), v .isLengths), v .isTaskRange), v .isMutexRange), v .isBufferRange), v .isPoolRange), v .isBlockFlag), v .isPoolSum), v .isArgument), v .isWait), v .isArrivals), v .isPriorities), v .isCeiling), v .isLocking), v .isGetting), v .isReceiving), v .isFirstSender), v .isLayout), v .isOutbox)),
-      )
+      let c20 = then-agrees _ _ c19 (λ q. each-within (regionLayout k (x .store)) (RegionLayout k (x .store)) buffers (λ b low high. layout-agrees k (x .store) (search tt) b low high (let range : Each buffers (BufferRange k) = search tt in range b low high))) in
+      let c21 = then-agrees _ _ c20 (λ q. each-within (outboxPart k (x .outbox)) (Outbox k (x .outbox)) tasks (outbox-agrees k (x .outbox) (search tt))) in
+      ((λ e. let q = c21 .0 e in search tt), (λ v. c21 .1 (search tt)))

@@ -1,10 +1,5 @@
 pub mod Tests
 pub mod Agree
-pub mod Lent
+pub mod Parts
 pub mod Check
-pub mod Flags
-pub mod Waiters
-pub mod Sums
-pub mod Arrivals
-pub mod Currents
 pub mod Shown

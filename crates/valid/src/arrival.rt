@@ -14,7 +14,7 @@ ghost use Rattle.model.specs.Sizes.{tasks};
 ghost use Rattle.model.specs.Lists.{all, occurrences, padded, same, upTo};
 ghost use Rattle.model.specs.Valid.{arrivals};
 ghost use Rattle.model.specs.Words.{wordCount, kernel};
-ghost use Rattle.valid.specs.Arrivals.{standsOnce, hasStarted, given};
+ghost use Rattle.valid.specs.Parts.{standsOnce, hasStarted, given};
 
 const PLACES: usize = TASKS as usize;
 

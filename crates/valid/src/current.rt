@@ -8,9 +8,9 @@ ghost use mathlib.Core.Path.{_≡_};
 ghost use lib.ListN.{length};
 ghost use Rattle.model.specs.Sizes.{tasks};
 ghost use Rattle.model.specs.Lists.{all, upTo};
-ghost use Rattle.model.specs.Valid.{Lists, taskLists, currentPriorities};
+ghost use Rattle.model.specs.Valid.{TaskLists, currentPriorities};
 ghost use Rattle.model.specs.Words.{wordCount, kernel};
-ghost use Rattle.valid.specs.Currents.{sameCurrent};
+ghost use Rattle.valid.specs.Parts.{sameCurrent};
 
 fn copy(from: &[u32], to: &mut [u32])
     requires { ⌜ length (now from) ≡ length (now to) ⌝ }
@@ -49,7 +49,7 @@ fn same_currents(state: &[u32], other: &[u32]) -> bool
 
 pub(crate) fn priorities(state: &[u32]) -> bool
     requires { ⌜ length (now state) ≡ wordCount ⌝ }
-    requires { ⌜ Lists tasks (taskLists (kernel (now state))) ⌝ }
+    requires { ⌜ TaskLists (kernel (now state) .tasks) ⌝ }
     ensures { λ r. ⌜ r ≡ currentPriorities (kernel (now (state .entry))) ⌝ }
 {
     let mut afresh = [0; WORDS];

@@ -10,13 +10,13 @@ ghost use mathlib.Core.Path.{_≡_};
 ghost use lib.ListN.{length};
 ghost use Rattle.model.specs.Sizes.{mutexes, buffers, pools};
 ghost use Rattle.model.specs.Lists.{_!_};
-ghost use Rattle.model.specs.Valid.{Lists, mutexLists, bufferLists, poolLists};
+ghost use Rattle.model.specs.Valid.{MutexLists, BufferLists, PoolLists};
 ghost use Rattle.model.specs.Words.{wordCount, kernel};
 
 // 1 if the object exists, else 0.
 pub(crate) fn mutex_exists(state: &[u32], n: u32) -> u32
     requires { ⌜ length (now state) ≡ wordCount ⌝ }
-    requires { ⌜ Lists mutexes (mutexLists (kernel (now state))) ⌝ }
+    requires { ⌜ MutexLists (kernel (now state) .mutexes) ⌝ }
     ensures { λ r. ⌜ r ≡ kernel (now (state .entry)) .mutexes .exists ! n ⌝ }
 {
     let found = MutexNumber::from_word(n);
@@ -28,7 +28,7 @@ pub(crate) fn mutex_exists(state: &[u32], n: u32) -> u32
 
 pub(crate) fn buffer_exists(state: &[u32], n: u32) -> u32
     requires { ⌜ length (now state) ≡ wordCount ⌝ }
-    requires { ⌜ Lists buffers (bufferLists (kernel (now state))) ⌝ }
+    requires { ⌜ BufferLists (kernel (now state) .buffers) ⌝ }
     ensures { λ r. ⌜ r ≡ kernel (now (state .entry)) .buffers .exists ! n ⌝ }
 {
     let found = BufferNumber::from_word(n);
@@ -40,7 +40,7 @@ pub(crate) fn buffer_exists(state: &[u32], n: u32) -> u32
 
 pub(crate) fn pool_exists(state: &[u32], n: u32) -> u32
     requires { ⌜ length (now state) ≡ wordCount ⌝ }
-    requires { ⌜ Lists pools (poolLists (kernel (now state))) ⌝ }
+    requires { ⌜ PoolLists (kernel (now state) .pools) ⌝ }
     ensures { λ r. ⌜ r ≡ kernel (now (state .entry)) .pools .exists ! n ⌝ }
 {
     let found = PoolNumber::from_word(n);
@@ -53,7 +53,7 @@ pub(crate) fn pool_exists(state: &[u32], n: u32) -> u32
 // The task that holds a mutex, 0 for none.
 pub(crate) fn holder(state: &[u32], n: u32) -> u32
     requires { ⌜ length (now state) ≡ wordCount ⌝ }
-    requires { ⌜ Lists mutexes (mutexLists (kernel (now state))) ⌝ }
+    requires { ⌜ MutexLists (kernel (now state) .mutexes) ⌝ }
     ensures { λ r. ⌜ r ≡ kernel (now (state .entry)) .mutexes .holder ! n ⌝ }
 {
     let found = MutexNumber::from_word(n);
@@ -66,7 +66,7 @@ pub(crate) fn holder(state: &[u32], n: u32) -> u32
 // The longest message of a buffer.
 pub(crate) fn maxmsz(state: &[u32], n: u32) -> u32
     requires { ⌜ length (now state) ≡ wordCount ⌝ }
-    requires { ⌜ Lists buffers (bufferLists (kernel (now state))) ⌝ }
+    requires { ⌜ BufferLists (kernel (now state) .buffers) ⌝ }
     ensures { λ r. ⌜ r ≡ kernel (now (state .entry)) .buffers .maxmsz ! n ⌝ }
 {
     let found = BufferNumber::from_word(n);
@@ -79,7 +79,7 @@ pub(crate) fn maxmsz(state: &[u32], n: u32) -> u32
 // The bytes in use of a buffer's region.
 pub(crate) fn used(state: &[u32], n: u32) -> u32
     requires { ⌜ length (now state) ≡ wordCount ⌝ }
-    requires { ⌜ Lists buffers (bufferLists (kernel (now state))) ⌝ }
+    requires { ⌜ BufferLists (kernel (now state) .buffers) ⌝ }
     ensures { λ r. ⌜ r ≡ kernel (now (state .entry)) .buffers .used ! n ⌝ }
 {
     let found = BufferNumber::from_word(n);

@@ -19,10 +19,10 @@ use state::none;
 ghost use mathlib.Core.Path.{_≡_};
 ghost use lib.ListN.{length};
 ghost use Rattle.model.specs.Sizes.{tasks, mutexes, buffers, pools};
-ghost use Rattle.model.specs.Valid.{Lists, taskLists, mutexLists, bufferLists, poolLists};
+ghost use Rattle.model.specs.Valid.{TaskLists, MutexLists, BufferLists, PoolLists};
 ghost use Rattle.model.proofs.FlagLaws.{joinedFlags};
 ghost use Rattle.model.specs.Words.{wordCount, kernel};
-ghost use Rattle.valid.specs.Lent.{lent, isValid};
+ghost use Rattle.model.specs.Lent.{lent, isValid};
 ghost use Rattle.valid.specs.Check.{rightLengths, noneZero, clauses};
 
 // "state not sound, or an area not exactly 1,024 or 512 bytes": the lengths come first, so that whatever is lent can be read.
@@ -46,10 +46,10 @@ fn none_zero(state: &[u32]) -> bool
 // All other clauses.
 fn clauses_hold(state: &[u32], store: &[u8], outbox: &[u8]) -> bool
     requires { ⌜ length (now state) ≡ wordCount ⌝ }
-    requires { ⌜ Lists tasks (taskLists (kernel (now state))) ⌝ }
-    requires { ⌜ Lists mutexes (mutexLists (kernel (now state))) ⌝ }
-    requires { ⌜ Lists buffers (bufferLists (kernel (now state))) ⌝ }
-    requires { ⌜ Lists pools (poolLists (kernel (now state))) ⌝ }
+    requires { ⌜ TaskLists (kernel (now state) .tasks) ⌝ }
+    requires { ⌜ MutexLists (kernel (now state) .mutexes) ⌝ }
+    requires { ⌜ BufferLists (kernel (now state) .buffers) ⌝ }
+    requires { ⌜ PoolLists (kernel (now state) .pools) ⌝ }
     ensures { λ r. ⌜ r ≡ joinedFlags (clauses (lent (now (state .entry)) (now (store .entry)) (now (outbox .entry)))) ⌝ }
 {
     object::tasks_valid(state)

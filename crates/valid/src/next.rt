@@ -50,5 +50,5 @@ pub fn next_message<'a>(state: &[u32], store: &'a [u8], outbox: &'a [u8], n: i32
     ensures { λ m. ⌜ now m ≡ shownMessage (now (state .entry)) (now (store .entry)) (now (outbox .entry)) n ⌝ }
 {
     let at = location(state, store, outbox, n);
-    message::next::next_message(store, outbox, at)
+    message::next::message_at(store, outbox, at)
 }

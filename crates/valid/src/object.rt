@@ -18,7 +18,7 @@ ghost use mathlib.Core.Path.{_≡_};
 ghost use lib.ListN.{length};
 ghost use Rattle.model.specs.Sizes.{tasks, mutexes, buffers, pools};
 ghost use Rattle.model.specs.Lists.{all, upTo};
-ghost use Rattle.model.specs.Valid.{Lists, mutexLists, bufferLists, poolLists};
+ghost use Rattle.model.specs.Valid.{MutexLists, BufferLists, PoolLists};
 ghost use Rattle.model.proofs.FlagLaws.{passes};
 ghost use Rattle.model.specs.Words.{wordCount, kernel};
 ghost use Rattle.valid.specs.Check.{taskTests, bufferTests};
@@ -26,9 +26,9 @@ ghost use Rattle.valid.specs.Check.{taskTests, bufferTests};
 // All clauses that are about one task.
 fn task_valid(state: &[u32], t: TaskNumber) -> bool
     requires { ⌜ length (now state) ≡ wordCount ⌝ }
-    requires { ⌜ Lists mutexes (mutexLists (kernel (now state))) ⌝ }
-    requires { ⌜ Lists buffers (bufferLists (kernel (now state))) ⌝ }
-    requires { ⌜ Lists pools (poolLists (kernel (now state))) ⌝ }
+    requires { ⌜ MutexLists (kernel (now state) .mutexes) ⌝ }
+    requires { ⌜ BufferLists (kernel (now state) .buffers) ⌝ }
+    requires { ⌜ PoolLists (kernel (now state) .pools) ⌝ }
     ensures { λ r. ⌜ r ≡ passes (taskTests (kernel (now (state .entry)))) (t .0) ⌝ }
 {
     task_range(state, t)
@@ -51,9 +51,9 @@ fn buffer_valid(state: &[u32], b: BufferNumber) -> bool
 // The same of every task and every buffer. Each number of a loop names an object, so no answer is given for want of one.
 pub(crate) fn tasks_valid(state: &[u32]) -> bool
     requires { ⌜ length (now state) ≡ wordCount ⌝ }
-    requires { ⌜ Lists mutexes (mutexLists (kernel (now state))) ⌝ }
-    requires { ⌜ Lists buffers (bufferLists (kernel (now state))) ⌝ }
-    requires { ⌜ Lists pools (poolLists (kernel (now state))) ⌝ }
+    requires { ⌜ MutexLists (kernel (now state) .mutexes) ⌝ }
+    requires { ⌜ BufferLists (kernel (now state) .buffers) ⌝ }
+    requires { ⌜ PoolLists (kernel (now state) .pools) ⌝ }
     ensures { λ r. ⌜ r ≡ all (passes (taskTests (kernel (now (state .entry))))) (upTo tasks) ⌝ }
 {
     for n in 1..=TASKS {

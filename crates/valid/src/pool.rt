@@ -13,7 +13,7 @@ ghost use lib.Dec.{leb};
 ghost use Rattle.model.specs.Sizes.{pools, blocks, poolBytes};
 ghost use Rattle.model.specs.Lists.{_!_, all, countFrom, upTo};
 ghost use Rattle.model.specs.Refusal.{poolSum};
-ghost use Rattle.model.specs.Valid.{blockFlag, Lists, poolLists};
+ghost use Rattle.model.specs.Valid.{blockFlag, PoolLists};
 ghost use Rattle.model.specs.Words.{wordCount, kernel};
 ghost use Rattle.valid.specs.Check.{blockFlags};
 
@@ -59,7 +59,7 @@ fn flags_of_pools(state: &[u32]) -> bool
 // Of none's flags, those of pool 0, and of all others.
 pub(crate) fn flags(state: &[u32]) -> bool
     requires { ⌜ length (now state) ≡ wordCount ⌝ }
-    requires { ⌜ Lists pools (poolLists (kernel (now state))) ⌝ }
+    requires { ⌜ PoolLists (kernel (now state) .pools) ⌝ }
     ensures { λ r. ⌜ r ≡ blockFlags (kernel (now (state .entry))) ⌝ }
 {
     flags_zero(state) & flags_of_pools(state)

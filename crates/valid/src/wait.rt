@@ -9,7 +9,7 @@ ghost use mathlib.Core.Path.{_≡_};
 ghost use lib.ListN.{length};
 ghost use Rattle.model.specs.Sizes.{mutexes, buffers, pools};
 ghost use Rattle.model.specs.Lists.{_!_};
-ghost use Rattle.model.specs.Valid.{Lists, mutexLists, bufferLists, poolLists, awaitable, argument, waitFields, lockingTask};
+ghost use Rattle.model.specs.Valid.{MutexLists, BufferLists, PoolLists, awaitable, argument, waitFields, lockingTask};
 ghost use Rattle.model.specs.Words.{wordCount, kernel};
 
 // The most milliseconds that a timeout asks for, and the word for a wait without end.
@@ -21,7 +21,7 @@ const ENDLESS: u32 = 0xFFFF_FFFF;
 // an argument.
 pub(crate) fn argument(state: &[u32], t: TaskNumber) -> bool
     requires { ⌜ length (now state) ≡ wordCount ⌝ }
-    requires { ⌜ Lists buffers (bufferLists (kernel (now state))) ⌝ }
+    requires { ⌜ BufferLists (kernel (now state) .buffers) ⌝ }
     ensures { λ r. ⌜ r ≡ argument (kernel (now (state .entry))) (t .0) ⌝ }
 {
     let place = state::task::place(state, t);
@@ -36,9 +36,9 @@ pub(crate) fn argument(state: &[u32], t: TaskNumber) -> bool
 // The entry that is 1 if the object that a task at this place waits for exists.
 fn awaited(state: &[u32], place: u32, object: u32) -> u32
     requires { ⌜ length (now state) ≡ wordCount ⌝ }
-    requires { ⌜ Lists mutexes (mutexLists (kernel (now state))) ⌝ }
-    requires { ⌜ Lists buffers (bufferLists (kernel (now state))) ⌝ }
-    requires { ⌜ Lists pools (poolLists (kernel (now state))) ⌝ }
+    requires { ⌜ MutexLists (kernel (now state) .mutexes) ⌝ }
+    requires { ⌜ BufferLists (kernel (now state) .buffers) ⌝ }
+    requires { ⌜ PoolLists (kernel (now state) .pools) ⌝ }
     ensures { λ r. ⌜ r ≡ awaitable (kernel (now (state .entry))) place ! object ⌝ }
 {
     if place == LOCKING {
@@ -53,9 +53,9 @@ fn awaited(state: &[u32], place: u32, object: u32) -> u32
 // "waits with 1 or more ms left or endless", each for an object that exists; without a wait its fields are 0.
 pub(crate) fn wait_fields(state: &[u32], t: TaskNumber) -> bool
     requires { ⌜ length (now state) ≡ wordCount ⌝ }
-    requires { ⌜ Lists mutexes (mutexLists (kernel (now state))) ⌝ }
-    requires { ⌜ Lists buffers (bufferLists (kernel (now state))) ⌝ }
-    requires { ⌜ Lists pools (poolLists (kernel (now state))) ⌝ }
+    requires { ⌜ MutexLists (kernel (now state) .mutexes) ⌝ }
+    requires { ⌜ BufferLists (kernel (now state) .buffers) ⌝ }
+    requires { ⌜ PoolLists (kernel (now state) .pools) ⌝ }
     ensures { λ r. ⌜ r ≡ waitFields (kernel (now (state .entry))) (t .0) ⌝ }
 {
     let place = state::task::place(state, t);
@@ -71,7 +71,7 @@ pub(crate) fn wait_fields(state: &[u32], t: TaskNumber) -> bool
 // "no task waiting for a mutex it holds"; "no waiters at a free mutex".
 pub(crate) fn locking_task(state: &[u32], t: TaskNumber) -> bool
     requires { ⌜ length (now state) ≡ wordCount ⌝ }
-    requires { ⌜ Lists mutexes (mutexLists (kernel (now state))) ⌝ }
+    requires { ⌜ MutexLists (kernel (now state) .mutexes) ⌝ }
     ensures { λ r. ⌜ r ≡ lockingTask (kernel (now (state .entry))) (t .0) ⌝ }
 {
     let place = state::task::place(state, t);

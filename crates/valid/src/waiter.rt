@@ -18,9 +18,9 @@ ghost use lib.Dec.{eqb};
 ghost use Rattle.model.specs.Sizes.{tasks, buffers, pools};
 ghost use Rattle.model.specs.Lists.{all, upTo};
 ghost use Rattle.model.specs.Refusal.{freeBlock};
-ghost use Rattle.model.specs.Valid.{Lists, bufferLists, poolLists, gettingTask, receivingTask, firstSender};
+ghost use Rattle.model.specs.Valid.{BufferLists, PoolLists, gettingTask, receivingTask, firstSender};
 ghost use Rattle.model.specs.Words.{wordCount, kernel};
-ghost use Rattle.valid.specs.Waiters.{noSender};
+ghost use Rattle.valid.specs.Parts.{noSender};
 
 // Whether a pool has no free block. A state may say any count; the flags end, and beyond them a block reads as free.
 fn all_taken(state: &[u32], p: PoolNumber) -> bool
@@ -40,7 +40,7 @@ fn all_taken(state: &[u32], p: PoolNumber) -> bool
 // The same by a word; where no pool is named, no block is free.
 fn none_free(state: &[u32], n: u32) -> bool
     requires { ⌜ length (now state) ≡ wordCount ⌝ }
-    requires { ⌜ Lists pools (poolLists (kernel (now state))) ⌝ }
+    requires { ⌜ PoolLists (kernel (now state) .pools) ⌝ }
     ensures { λ r. ⌜ r ≡ eqb (freeBlock (kernel (now (state .entry))) n) 0 ⌝ }
 {
     let found = PoolNumber::from_word(n);
@@ -53,7 +53,7 @@ fn none_free(state: &[u32], n: u32) -> bool
 // "no waiters at [..] a pool with free blocks".
 pub(crate) fn getting_task(state: &[u32], t: TaskNumber) -> bool
     requires { ⌜ length (now state) ≡ wordCount ⌝ }
-    requires { ⌜ Lists pools (poolLists (kernel (now state))) ⌝ }
+    requires { ⌜ PoolLists (kernel (now state) .pools) ⌝ }
     ensures { λ r. ⌜ r ≡ gettingTask (kernel (now (state .entry))) (t .0) ⌝ }
 {
     let place = state::task::place(state, t);
@@ -90,7 +90,7 @@ fn no_senders(state: &[u32], b: u32) -> bool
 // "no receivers beside messages or senders".
 pub(crate) fn receiving_task(state: &[u32], t: TaskNumber) -> bool
     requires { ⌜ length (now state) ≡ wordCount ⌝ }
-    requires { ⌜ Lists buffers (bufferLists (kernel (now state))) ⌝ }
+    requires { ⌜ BufferLists (kernel (now state) .buffers) ⌝ }
     ensures { λ r. ⌜ r ≡ receivingTask (kernel (now (state .entry))) (t .0) ⌝ }
 {
     let place = state::task::place(state, t);

@@ -5,7 +5,7 @@ ghost use mathlib.Core.Path.{_≡_};
 ghost use Prim.Native.Nat.{_+_, _*_, _≤_};
 ghost use lib.ListN.{length};
 ghost use Rattle.verdicts.specs.Words.{wordAt, wordsOf};
-ghost use Rattle.valid.specs.Lent.{isValid};
+ghost use Rattle.model.specs.Lent.{isValid};
 
 // The word that begins at a place.
 pub(crate) fn word(bytes: &[u8], at: usize) -> u32

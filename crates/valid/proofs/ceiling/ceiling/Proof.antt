@@ -7,9 +7,7 @@ use Rattle.valid.proofs.ceiling.ceiling.Tie as tie
 
 returns : tie.Need-returns
 unfolding ceiling aboveCeiling
-returns c =
-    let r = c .before .before .before in
-    rw (c .stands-in .ensures, c .before .word2 .ensures, c .before .before .word .ensures, r .base .ensures, r .before .ceiling .ensures, r .before .before .holder .ensures, r .before .before .before .attribute .ensures)
+returns c = cc
 
 pub ceiling-spec : {M : Type 1} → statement M
 ceiling-spec =

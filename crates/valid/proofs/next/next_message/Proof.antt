@@ -13,7 +13,7 @@ unfolding shownMessage
 returns c =
     let a = c .before .before .before .before .before in
     let e = rw (toZ-ofZ (a .fits .n)) at (c .before .location .ensures) in
-    c .next-message .ensures ∙ ap (λ (l : Location). messageAt l (a .args .store .now) (a .args .outbox .now)) e
+    c .message-at .ensures ∙ ap (λ (l : Location). messageAt l (a .args .store .now) (a .args .outbox .now)) e
 
 pub next-message-spec : {M : Type 1} → statement M
 next-message-spec = tie.close (tie.spec (λ c κs. search needs) (λ c κs. search needs) returns)

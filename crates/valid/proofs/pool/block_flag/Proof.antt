@@ -6,8 +6,7 @@ use Rattle.valid.proofs.pool.block_flag.Tie as tie
 
 returns : tie.Need-returns
 unfolding blockFlag
-returns c =
-    rw (c .within .ensures, c .before .count .ensures, c .before .before .taken .ensures)
+returns c = cc
 
 pub block-flag-spec : {M : Type 1} → statement M
 block-flag-spec =

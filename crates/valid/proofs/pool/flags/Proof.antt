@@ -1,8 +1,7 @@
 -- `flags` meets its contract: pool 0 has no blocks, so its flags are 0. Assumes nothing.
-use mathlib.Core.Path.{sym}
 use borrow.Author.Needs.{needs}
 use Rattle.model.specs.Words.{kernel}
-use Rattle.valid.specs.Check.{none-flags}
+use Rattle.valid.proofs.Check.{none-flags}
 use Rattle.valid.proofs.pool.flags.Statement.{statement}
 use Rattle.valid.proofs.pool.flags.Tie as tie
 

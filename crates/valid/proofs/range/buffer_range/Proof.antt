@@ -6,9 +6,7 @@ use Rattle.valid.proofs.range.buffer_range.Tie as tie
 
 returns : tie.Need-returns
 unfolding bufferRange
-returns c =
-    let r = c .before .before .before in
-    rw (c .within .ensures, c .before .buffer-attribute .ensures, c .before .before .used .ensures, r .maxmsz .ensures, r .before .bufsz .ensures, r .before .before .attribute .ensures, r .before .before .before .exists .ensures)
+returns c = cc
 
 pub buffer-range-spec : {M : Type 1} → statement M
 buffer-range-spec =

@@ -6,9 +6,7 @@ use Rattle.valid.proofs.range.mutex_range.Tie as tie
 
 returns : tie.Need-returns
 unfolding mutexRange
-returns c =
-    let r = c .before .before .before in
-    rw (c .may-hold .ensures, c .before .mutex-attribute .ensures, c .before .before .within .ensures, r .holder .ensures, r .before .ceiling .ensures, r .before .before .attribute .ensures, r .before .before .before .exists .ensures)
+returns c = cc
 
 pub mutex-range-spec : {M : Type 1} → statement M
 mutex-range-spec =

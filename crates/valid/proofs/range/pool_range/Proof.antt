@@ -6,9 +6,7 @@ use Rattle.valid.proofs.range.pool_range.Tie as tie
 
 returns : tie.Need-returns
 unfolding poolRange
-returns c =
-    let r = c .before .before .before in
-    rw (c .within2 .ensures, c .before .within .ensures, c .before .before .pool-attribute .ensures, r .size .ensures, r .before .count .ensures, r .before .before .attribute .ensures, r .before .before .before .exists .ensures)
+returns c = cc
 
 pub pool-range-spec : {M : Type 1} → statement M
 pool-range-spec =

@@ -6,9 +6,7 @@ use Rattle.valid.proofs.range.task_range.Tie as tie
 
 returns : tie.Need-returns
 unfolding taskRange
-returns c =
-    let r = c .before .before .before in
-    rw (c .within3 .ensures, c .before .within2 .ensures, c .before .before .within .ensures, r .base .ensures, r .before .initial .ensures, r .before .before .place .ensures)
+returns c = cc
 
 pub task-range-spec : {M : Type 1} → statement M
 task-range-spec =

@@ -6,9 +6,7 @@ use Rattle.valid.proofs.wait.argument.Tie as tie
 
 returns : tie.Need-returns
 unfolding argument
-returns c =
-    let r = c .before .before .before in
-    rw (c .within .ensures, c .before .maxmsz .ensures, c .before .before .argument .ensures, r .object .ensures, r .before .place .ensures)
+returns c = cc
 
 pub argument-spec : {M : Type 1} → statement M
 argument-spec =

@@ -6,9 +6,7 @@ use Rattle.valid.proofs.wait.wait_fields.Tie as tie
 
 returns : tie.Need-returns
 unfolding waitFields
-returns c =
-    let r = c .before .before .before in
-    rw (c .within .ensures, c .before .awaited .ensures, c .before .before .left .ensures, r .object .ensures, r .before .place .ensures)
+returns c = cc
 
 pub wait-fields-spec : {M : Type 1} → statement M
 wait-fields-spec =

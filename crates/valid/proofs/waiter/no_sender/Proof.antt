@@ -4,8 +4,7 @@ use Rattle.valid.proofs.waiter.no_sender.Statement.{statement}
 use Rattle.valid.proofs.waiter.no_sender.Tie as tie
 
 returns : tie.Need-returns
-returns c =
-    rw (c .object .ensures, c .before .place .ensures)
+returns c = cc
 
 pub no-sender-spec : {M : Type 1} → statement M
 no-sender-spec =

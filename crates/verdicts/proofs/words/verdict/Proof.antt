@@ -4,7 +4,7 @@ use native.Mathlib.Omega.{arith}
 use mathlib.Core.List.{List}
 use mathlib.Core.Path.{_∙_, ap}
 use Rattle.verdicts.proofs.WordLaws.{front}
-use Rattle.valid.specs.Lent.{isValid}
+use Rattle.model.specs.Lent.{isValid}
 use borrow.Author.Needs.{needs}
 use Rattle.verdicts.proofs.words.verdict.Statement.{statement}
 use Rattle.verdicts.proofs.words.verdict.Tie as tie

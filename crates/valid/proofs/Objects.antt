@@ -1,0 +1,50 @@
+-- Laws of the tests of one object: entries by a word that names an object or nothing, and who may hold a mutex. Assumes nothing.
+use Prim.Native.Nat.{ℕ, suc}
+use native.Mathlib.Omega.{arith}
+use mathlib.Core.Path.{_≡_, _∙_, sym, ap}
+use mathlib.Core.Logic.{inl, inr}
+use mathlib.Core.Bool.{true, false, _||_}
+use mathlib.Core.List.{List}
+use lib.ListN.{length, List·getD-eq-default}
+use lib.Dec.{eqb, leb}
+use borrow.Author.Tests.{eq-eqb, ne-eqb}
+use Rattle.model.specs.Sizes.{tasks}
+use Rattle.model.specs.Lists.{_!_}
+use Rattle.model.specs.Facts.{ready}
+use Rattle.model.specs.Number.{wordNumber, maybeTask}
+use Rattle.model.specs.declared.number.MaybeTask.{MaybeTask}
+use Rattle.model.proofs.NumberLaws.{NamesNone, Kind, taskKind, named, unnamed}
+use Rattle.model.specs.Words.{wordCount, sizes, fields, kernel}
+use Rattle.state.proofs.WordLaws.{sized, size-of}
+use Rattle.model.specs.Field as field
+
+-- ---- an entry by a word: the object's, or 0 where entry 0 is
+
+beyond : (last : ℕ) (xs : List ℕ) (u : ℕ) → length xs ≡ suc last → NamesNone last u → (u ≡ 0 → xs ! u ≡ 0) → xs ! u ≡ 0
+beyond last xs u long (inl e) zero = zero e
+beyond last xs u long (inr h) zero = List·getD-eq-default xs 0 {n = u} (omega arith)
+
+module _ {A : Type 0} (kind : Kind A) (xs : List ℕ) (u : ℕ) {found : A} (made : found ≡ kind .make (wordNumber u (kind .last))) where
+  pub entry-there : (x r : ℕ) → found ≡ kind .some x → r ≡ xs ! x → r ≡ xs ! u
+  entry-there x r some e = e ∙ ap (λ (i : ℕ). xs ! i) (named kind made some .0)
+
+  pub entry-none : found ≡ kind .none → length xs ≡ suc (kind .last) → xs ! 0 ≡ 0 → 0 ≡ xs ! u
+  entry-none none long zero =
+      sym (beyond (kind .last) xs u long (unnamed kind made none) (λ e. ap (λ (i : ℕ). xs ! i) e ∙ zero))
+
+-- ---- who may hold a mutex
+
+pub places-long : (w : List ℕ) → length w ≡ wordCount → length (kernel w .tasks .place) ≡ suc tasks
+unfolding fields sizes
+places-long w h = size-of (kernel w) (sized w h) field.place
+
+module _ (places : List ℕ) (n : ℕ) where
+  pub hold-none : n ≡ 0 → true ≡ eqb n 0 || leb ready (places ! n)
+  hold-none e = rw (eq-eqb n 0 e)
+
+  module _ (d : n ≡ 0 → ⊥) {found : MaybeTask} (made : found ≡ maybeTask (wordNumber n tasks)) where
+    pub hold-nobody : found ≡ taskKind .none → length places ≡ suc tasks → false ≡ eqb n 0 || leb ready (places ! n)
+    hold-nobody none long = rw (ne-eqb n 0 d, beyond tasks places n long (unnamed taskKind made none) (λ e. absurd (d e)))
+
+    pub hold-task : (t p : ℕ) → found ≡ taskKind .some t → p ≡ places ! t → leb ready p ≡ eqb n 0 || leb ready (places ! n)
+    hold-task t p some e = rw (ne-eqb n 0 d, entry-there taskKind places n made t p some e)
