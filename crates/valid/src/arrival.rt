@@ -3,6 +3,7 @@
 use super::range::may_hold;
 use model::number::MaybeTask;
 use model::number::TaskNumber;
+use model::sizes::PLACES;
 use model::sizes::TASKS;
 use state::arrival::task;
 use state::task::READY;
@@ -15,8 +16,6 @@ ghost use Rattle.model.specs.Lists.{all, occurrences, padded, same, upTo};
 ghost use Rattle.model.specs.Valid.{arrivals};
 ghost use Rattle.model.specs.Words.{wordCount, kernel};
 ghost use Rattle.valid.specs.Parts.{standsOnce, hasStarted, given};
-
-const PLACES: usize = TASKS as usize;
 
 // 1 for two numbers that are the same, else 0.
 fn one_if_same(u: u32, v: u32) -> usize

@@ -1,5 +1,5 @@
 // 01, "Sound": "no base above a held or awaited ceiling".
-use super::range::CEILINGED;
+use model::attribute::CEILINGED;
 use model::number::MaybeMutex;
 use model::number::MutexNumber;
 use model::number::TaskNumber;

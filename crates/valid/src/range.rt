@@ -1,5 +1,7 @@
 // 01, "Sound": "numbers in range; unused entries as in the fresh bench". A test joins flags by `&` and `|`, which ask both sides, so that
 // its answer is the definition's formula as it stands.
+use model::attribute;
+use model::attribute::CEILINGED;
 use model::number::BufferNumber;
 use model::number::MaybeMutex;
 use model::number::MaybePool;
@@ -26,12 +28,8 @@ ghost use lib.Dec.{eqb, leb};
 ghost use Rattle.model.specs.Sizes.{mutexes, pools};
 ghost use Rattle.model.specs.Lists.{_!_, all, member, upTo, within};
 ghost use Rattle.model.specs.Facts.{ready};
-ghost use Rattle.model.specs.Refusal.{mutexAttributes, bufferAttributes, poolAttributes};
 ghost use Rattle.model.specs.Valid.{taskRange, mutexRange, bufferRange, poolRange};
 ghost use Rattle.model.specs.Words.{wordCount, kernel};
-
-// A mutex's attribute: it has a ceiling.
-pub(crate) const CEILINGED: u32 = 3;
 
 // The largest bufsz and maxmsz, as words of the state.
 const REGION: u32 = REGION_BYTES as u32;
@@ -43,34 +41,6 @@ pub(crate) fn within(low: u32, high: u32, n: u32) -> bool
     ensures { λ r. ⌜ r ≡ within low high n ⌝ }
 {
     (low <= n) & (n <= high)
-}
-
-// Whether a number is one of four.
-fn among(x: u32, a: u32, b: u32, c: u32, d: u32) -> bool
-    ensures { λ r. ⌜ r ≡ member x (a ∷ b ∷ c ∷ d ∷ []) ⌝ }
-{
-    (x == a) | (x == b) | (x == c) | (x == d)
-}
-
-// The attributes that a mutex, a buffer and a pool can be created with, and so can have.
-fn mutex_attribute(a: u32) -> bool
-    ensures { λ r. ⌜ r ≡ member a mutexAttributes ⌝ }
-{
-    among(a, 0, 1, 2, CEILINGED)
-}
-
-fn buffer_attribute(a: u32) -> bool
-    ensures { λ r. ⌜ r ≡ member a bufferAttributes ⌝ }
-{
-    (a == 0) | (a == 1)
-}
-
-fn pool_attribute(a: u32) -> bool
-    ensures { λ r. ⌜ r ≡ member a poolAttributes ⌝ }
-{
-    let low = among(a, 0, 1, 256, 257);
-    let high = among(a, 512, 513, 768, 769);
-    low | high
 }
 
 // "numbers in range" of a task: its place and its priorities. An absent task's are 0.
@@ -117,7 +87,7 @@ fn mutex_range(state: &[u32], m: MutexNumber) -> bool
     let with = (attribute == CEILINGED) & within(1, PRIORITIES, ceiling);
     let without = (attribute != CEILINGED) & (ceiling == 0);
     let used = (exists == 1)
-        & mutex_attribute(attribute)
+        & attribute::of_mutex(attribute)
         & (with | without)
         & may_hold(state, holder);
     unused | used
@@ -135,7 +105,7 @@ pub(crate) fn buffer_range(state: &[u32], b: BufferNumber) -> bool
     let bytes = state::buffer::used(state, b);
     let unused = (exists == 0) & (attribute == 0) & (bufsz == 0) & (maxmsz == 0) & (bytes == 0);
     let used = (exists == 1)
-        & buffer_attribute(attribute)
+        & attribute::of_buffer(attribute)
         & (bufsz <= REGION)
         & within(1, MESSAGE, maxmsz)
         & (bytes <= bufsz);
@@ -153,7 +123,7 @@ fn pool_range(state: &[u32], p: PoolNumber) -> bool
     let size = state::pool::size(state, p);
     let unused = (exists == 0) & (attribute == 0) & (count == 0) & (size == 0);
     let used = (exists == 1)
-        & pool_attribute(attribute)
+        & attribute::of_pool(attribute)
         & within(1, BLOCKS, count)
         & within(1, BLOCK_BYTES, size);
     unused | used

@@ -2,6 +2,8 @@
 use super::entry;
 use super::range::within;
 use model::number::TaskNumber;
+use model::sizes::ENDLESS;
+use model::sizes::LONGEST;
 use state::task::GETTING;
 use state::task::LOCKING;
 use state::task::SENDING;
@@ -11,11 +13,6 @@ ghost use Rattle.model.specs.Sizes.{mutexes, buffers, pools};
 ghost use Rattle.model.specs.Lists.{_!_};
 ghost use Rattle.model.specs.Valid.{MutexLists, BufferLists, PoolLists, awaitable, argument, waitFields, lockingTask};
 ghost use Rattle.model.specs.Words.{wordCount, kernel};
-
-// The most milliseconds that a timeout asks for, and the word for a wait without end.
-const LONGEST: u32 = 0x7FFF_FFFF;
-
-const ENDLESS: u32 = 0xFFFF_FFFF;
 
 // "unused entries as in the fresh bench": a sender's wait has the length of its message, 1 to the buffer's maxmsz, and no other wait has
 // an argument.
