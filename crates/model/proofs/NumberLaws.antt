@@ -235,15 +235,3 @@ mutex-there u x e = named mutexKind refl e
 
 pub mutex-none : (u : ℕ) → maybeMutex (wordNumber u mutexes) ≡ NoMutex → NamesNone mutexes u
 mutex-none u e = unnamed mutexKind refl e
-
-pub buffer-there : (u : ℕ) (x : BufferNumber) → maybeBuffer (wordNumber u buffers) ≡ Buffer x → Names buffers u (x .0)
-buffer-there u x e = named bufferKind refl e
-
-pub buffer-none : (u : ℕ) → maybeBuffer (wordNumber u buffers) ≡ NoBuffer → NamesNone buffers u
-buffer-none u e = unnamed bufferKind refl e
-
-pub pool-there : (u : ℕ) (x : PoolNumber) → maybePool (wordNumber u pools) ≡ Pool x → Names pools u (x .0)
-pool-there u x e = named poolKind refl e
-
-pub pool-none : (u : ℕ) → maybePool (wordNumber u pools) ≡ NoPool → NamesNone pools u
-pool-none u e = unnamed poolKind refl e

@@ -20,7 +20,7 @@ unfoldable pub fieldNumber : ℤ → ℕ → ℕ
 fieldNumber (pos n) last = wordNumber n last
 fieldNumber (negsuc n) last = 0
 
--- a number as each type has it, and the number that stands for each case: 0 for nothing
+-- a number as each type has it: 0 names nothing; and, of a task, the number that stands for each case
 unfoldable pub maybeTask : ℕ → MaybeTask
 maybeTask n = cond (eqb n 0) mTask.the-variants.Nothing (mTask.the-variants.Task (record { 0 = n }))
 
@@ -31,20 +31,8 @@ taskWord (mTask.the-variants.Task n) = n .0
 unfoldable pub maybeMutex : ℕ → MaybeMutex
 maybeMutex n = cond (eqb n 0) mMutex.the-variants.Nothing (mMutex.the-variants.Mutex (record { 0 = n }))
 
-abbrev pub mutexWord : MaybeMutex → ℕ
-mutexWord mMutex.the-variants.Nothing = 0
-mutexWord (mMutex.the-variants.Mutex n) = n .0
-
 unfoldable pub maybeBuffer : ℕ → MaybeBuffer
 maybeBuffer n = cond (eqb n 0) mBuffer.the-variants.Nothing (mBuffer.the-variants.Buffer (record { 0 = n }))
 
-abbrev pub bufferWord : MaybeBuffer → ℕ
-bufferWord mBuffer.the-variants.Nothing = 0
-bufferWord (mBuffer.the-variants.Buffer n) = n .0
-
 unfoldable pub maybePool : ℕ → MaybePool
 maybePool n = cond (eqb n 0) mPool.the-variants.Nothing (mPool.the-variants.Pool (record { 0 = n }))
-
-abbrev pub poolWord : MaybePool → ℕ
-poolWord mPool.the-variants.Nothing = 0
-poolWord (mPool.the-variants.Pool n) = n .0

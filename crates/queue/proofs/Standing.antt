@@ -13,7 +13,8 @@ use Rattle.model.specs.Lists.{_!_, within, select, member}
 use Rattle.model.specs.Facts.{Facts, Queue, queue, ready, locking, sending, getting}
 use Rattle.model.specs.Queue.{byPriority}
 use Rattle.model.specs.Kernel.{Kernel, numbered, standsIn}
-use Rattle.model.proofs.NumberLaws.{Names, NamesNone, numbered-at, numbered-none}
+use Rattle.model.specs.Number.{wordNumber}
+use Rattle.model.proofs.NumberLaws.{Names, NamesNone, Kind, named, unnamed, numbered-at, numbered-none}
 use Rattle.model.specs.Words.{wordCount, sizes, fields, kernel}
 use Rattle.state.proofs.WordLaws.{sized, size-of}
 use Rattle.model.specs.Field as field
@@ -22,11 +23,14 @@ use Rattle.queue.specs.Better.{better}
 
 -- ---- entries
 
-pub entry-there : (last : ℕ) (xs : List ℕ) (u n r : ℕ) → Names last u n → r ≡ xs ! n → r ≡ numbered xs ! u
-entry-there last xs u n r h e = e ∙ ap (λ (i : ℕ). xs ! i) (h .0) ∙ sym (numbered-at xs u (h .1))
+module _ {A : Type 0} (kind : Kind A) (xs : List ℕ) (u : ℕ) {found : A} (made : found ≡ kind .make (wordNumber u (kind .last))) where
+  pub entry-there : (x r : ℕ) → found ≡ kind .some x → r ≡ xs ! x → r ≡ numbered xs ! u
+  entry-there x r e f =
+      let n = named kind made e in
+      f ∙ ap (λ (i : ℕ). xs ! i) (n .0) ∙ sym (numbered-at xs u (n .1))
 
-pub entry-none : (last : ℕ) (xs : List ℕ) (u : ℕ) → length xs ≡ suc last → NamesNone last u → 0 ≡ numbered xs ! u
-entry-none last xs u n h = sym (numbered-none last xs u n h)
+  pub entry-none : found ≡ kind .none → length xs ≡ suc (kind .last) → 0 ≡ numbered xs ! u
+  entry-none e long = sym (numbered-none (kind .last) xs u long (unnamed kind made e))
 
 -- ---- who stands in a queue
 

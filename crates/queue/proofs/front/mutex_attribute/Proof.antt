@@ -1,23 +1,13 @@
 -- `mutex_attribute` meets its contract: a word that names nothing reads as 0. Assumes nothing.
-use mathlib.Core.Path.{_∙_, sym}
 use borrow.Author.Needs.{needs}
-use Rattle.model.specs.Sizes.{mutexes}
-use Rattle.model.proofs.NumberLaws.{mutex-there, mutex-none}
-use Rattle.model.specs.Words.{kernel}
-use Rattle.queue.proofs.Standing.{entry-there, entry-none}
+use Rattle.model.proofs.NumberLaws.{mutexKind}
 use Rattle.state.proofs.WordLaws.{mutexes-long}
+use Rattle.queue.proofs.Standing.{entry-there, entry-none}
 use Rattle.queue.proofs.front.mutex_attribute.Statement.{statement}
 use Rattle.queue.proofs.front.mutex_attribute.Tie as tie
 
-returns : tie.Need-returns
-returns c =
-    let a = c .before .before .before .before in
-    entry-none mutexes (kernel (a .args .state .now) .mutexes .attribute) (a .args .n) (mutexes-long (a .args .state .now) (a .pre)) (mutex-none _ (sym (c .before .before .from-word .ensures) ∙ c .enum-told .given .1))
-
-returns-2 : tie.Need-returns-2
-returns-2 c =
-    let a = c .before .before .before .before .before .before in
-    entry-there mutexes (kernel (a .args .state .now) .mutexes .attribute) (a .args .n) _ _ (mutex-there _ _ (sym (c .before .before .before .before .from-word .ensures) ∙ c .before .before .found .given .1)) (c .attribute .ensures)
-
 pub mutex-attribute-spec : {M : Type 1} → statement M
-mutex-attribute-spec = tie.close (tie.spec (λ c κs. search needs) (λ c. search needs) (λ c. search needs) returns (λ c κs. search needs) returns-2)
+mutex-attribute-spec =
+    tie.close
+    (tie.spec (λ c κs. search needs) (λ c. search needs) (λ c. search needs) (λ c. search (entry-none mutexKind, mutexes-long)) (λ c κs. search needs)
+    (λ c. search (entry-there mutexKind)))
