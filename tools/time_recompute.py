@@ -12,7 +12,7 @@ from timing import run
 CRATE = """// Priorities worked out afresh, for another language to call.
 ghost use mathlib.Core.Path.{_≡_};
 ghost use lib.ListN.{length};
-ghost use Rattle.state.specs.Words.{wordCount};
+ghost use Rattle.model.specs.Words.{wordCount};
 
 #[no_mangle]
 pub extern "C" fn timing_recompute(state: &mut [u32])

@@ -74,7 +74,7 @@ every-append (false ∷ bs) cs = refl
 abbrev pub chosen : List Bool → List ℕ → List Bool
 chosen bs is = map (λ i. getD bs i true) is
 
-flag-set : (bs : List Bool) (i : ℕ) → every bs ≡ true → getD bs i true ≡ true
+pub flag-set : (bs : List Bool) (i : ℕ) → every bs ≡ true → getD bs i true ≡ true
 flag-set [] i e = refl
 flag-set (true ∷ bs) zero e = refl
 flag-set (true ∷ bs) (suc i) e = flag-set bs i e

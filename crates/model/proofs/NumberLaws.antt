@@ -145,73 +145,38 @@ module _ {A : Type 0} (kind : Kind A) {found : A} where
         go (inl z) = omega arith
         go (inr l) = omega arith
 
+abbrev pub kindOf : {A : Type 0} (last : ℕ) (none : A) (some make : ℕ → A) → ((n : ℕ) → make n ≡ cond (eqb n 0) none (some n))
+    → (code : A → ℕ) → code none ≡ 0 → ((n : ℕ) → code (some n) ≡ suc n) → Kind A
+kindOf last none some make made code a b =
+    record { last = last; none = none; some = some; make = make; made = made; code = code; none-code = a; some-code = b }
+
 pub task-made : (n : ℕ) → maybeTask n ≡ cond (eqb n 0) NoTask (Task (record { 0 = n }))
 unfolding maybeTask
 task-made n = refl
 
 abbrev pub taskKind : Kind MaybeTask
-taskKind =
-    record {
-      last = tasks;
-      none = NoTask;
-      some = λ n. Task (record { 0 = n });
-      make = maybeTask;
-      made = task-made;
-      code = λ x. elim x [ NoTask ↦ 0 | Task n ↦ suc (n .0) ];
-      none-code = refl;
-      some-code = λ n. refl;
-    }
+taskKind = kindOf tasks NoTask (λ n. Task (record { 0 = n })) maybeTask task-made (λ x. elim x [ NoTask ↦ 0 | Task n ↦ suc (n .0) ]) refl (λ n. refl)
 
 pub mutex-made : (n : ℕ) → maybeMutex n ≡ cond (eqb n 0) NoMutex (Mutex (record { 0 = n }))
 unfolding maybeMutex
 mutex-made n = refl
 
 abbrev pub mutexKind : Kind MaybeMutex
-mutexKind =
-    record {
-      last = mutexes;
-      none = NoMutex;
-      some = λ n. Mutex (record { 0 = n });
-      make = maybeMutex;
-      made = mutex-made;
-      code = λ x. elim x [ NoMutex ↦ 0 | Mutex n ↦ suc (n .0) ];
-      none-code = refl;
-      some-code = λ n. refl;
-    }
+mutexKind = kindOf mutexes NoMutex (λ n. Mutex (record { 0 = n })) maybeMutex mutex-made (λ x. elim x [ NoMutex ↦ 0 | Mutex n ↦ suc (n .0) ]) refl (λ n. refl)
 
 pub buffer-made : (n : ℕ) → maybeBuffer n ≡ cond (eqb n 0) NoBuffer (Buffer (record { 0 = n }))
 unfolding maybeBuffer
 buffer-made n = refl
 
 abbrev pub bufferKind : Kind MaybeBuffer
-bufferKind =
-    record {
-      last = buffers;
-      none = NoBuffer;
-      some = λ n. Buffer (record { 0 = n });
-      make = maybeBuffer;
-      made = buffer-made;
-      code = λ x. elim x [ NoBuffer ↦ 0 | Buffer n ↦ suc (n .0) ];
-      none-code = refl;
-      some-code = λ n. refl;
-    }
+bufferKind = kindOf buffers NoBuffer (λ n. Buffer (record { 0 = n })) maybeBuffer buffer-made (λ x. elim x [ NoBuffer ↦ 0 | Buffer n ↦ suc (n .0) ]) refl (λ n. refl)
 
 pub pool-made : (n : ℕ) → maybePool n ≡ cond (eqb n 0) NoPool (Pool (record { 0 = n }))
 unfolding maybePool
 pool-made n = refl
 
 abbrev pub poolKind : Kind MaybePool
-poolKind =
-    record {
-      last = pools;
-      none = NoPool;
-      some = λ n. Pool (record { 0 = n });
-      make = maybePool;
-      made = pool-made;
-      code = λ x. elim x [ NoPool ↦ 0 | Pool n ↦ suc (n .0) ];
-      none-code = refl;
-      some-code = λ n. refl;
-    }
+poolKind = kindOf pools NoPool (λ n. Pool (record { 0 = n })) maybePool pool-made (λ x. elim x [ NoPool ↦ 0 | Pool n ↦ suc (n .0) ]) refl (λ n. refl)
 
 -- ---- the same, each kind by its name
 

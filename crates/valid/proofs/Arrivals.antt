@@ -14,7 +14,7 @@ use Rattle.model.specs.Sizes.{tasks}
 use Rattle.model.specs.Lists.{_!_, all, allZero, headOf, implies, keep, occurrences, padded, same, select, zeros}
 use Rattle.model.specs.Facts.{ready}
 use Rattle.model.specs.Kernel.{Kernel}
-use Rattle.model.proofs.ListLaws.{eqb-sym}
+use Rattle.model.proofs.ListLaws.{eqb-sym, take-zeros}
 use Rattle.model.proofs.Loops.{Over, over-here, over-more, over-done}
 use Rattle.valid.specs.Parts.{hasStarted, given}
 
@@ -101,9 +101,7 @@ zeros-or-more (x ∷ xs) = rw (eqb-sym 0 x) (go (eqb x 0) refl (zeros-or-more xs
 -- how many zeros follow does not matter, if they are enough
 any-zeros : (s : List ℕ) (n a b : ℕ) → n ≤ a → n ≤ b → take n (s ++ zeros a) ≡ take n (s ++ zeros b)
 any-zeros s zero a b h k = refl
-any-zeros [] (suc n) zero b h k = absurd (omega arith)
-any-zeros [] (suc n) (suc a) zero h k = absurd (omega arith)
-any-zeros [] (suc n) (suc a) (suc b) h k = ap (λ (xs : List ℕ). 0 ∷ xs) (any-zeros [] n a b (omega arith) (omega arith))
+any-zeros [] (suc n) a b h k = take-zeros (suc n) a h ∙ sym (take-zeros (suc n) b k)
 any-zeros (x ∷ s) (suc n) a b h k = ap (λ (xs : List ℕ). x ∷ xs) (any-zeros s n a b (omega arith) (omega arith))
 
 same-zeros : (xs : List ℕ) → same xs (take (length xs) (zeros (length xs))) ≡ allZero xs

@@ -1,12 +1,12 @@
 -- What the tests of waiters at pools and buffers are made of: a search for a free block, and the first sender. Assumes nothing.
-use Prim.Native.Nat.{ℕ, zero, suc, _+_, _-_, _≤_, _<_}
+use Prim.Native.Nat.{ℕ, suc, _+_, _-_, _≤_, _<_}
 use native.Mathlib.Omega.{arith}
 use mathlib.Core.Path.{_≡_, _∙_, refl, sym, ap}
-use mathlib.Core.Bool.{Bool, true, false, _&&_, not}
+use mathlib.Core.Bool.{Bool, true, false, not}
 use lib.Dec.{eqb, leb}
 use borrow.Author.Tests.{eq-eqb, ne-eqb}
 use Rattle.model.specs.Sizes.{pools}
-use Rattle.model.specs.Lists.{_!_, all, countFrom, firstWhere}
+use Rattle.model.specs.Lists.{_!_}
 use Rattle.model.specs.Facts.{queue, sending}
 use Rattle.model.specs.Number.{wordNumber, maybeTask, maybePool}
 use Rattle.model.specs.Kernel.{Kernel, slot}
@@ -19,20 +19,11 @@ use Rattle.model.specs.declared.number.MaybeTask.{MaybeTask}
 use Rattle.model.specs.declared.number.MaybePool.{MaybePool}
 use Rattle.model.proofs.NumberLaws.{taskKind, poolKind, is-some, is-none, named}
 use Rattle.model.proofs.Loops.{Left, left-more, left-stop, left-done}
+use Rattle.valid.specs.Tests.{none-found}
 use Rattle.valid.proofs.Objects.{entry-none}
 use lib.ListN.{length}
 
 -- ---- a search for a free block: the first i have been seen, and the others decide
-
--- nothing is found exactly if every number fails
-none-found : (p : ℕ → Bool) (a n : ℕ) → eqb (firstWhere p (countFrom (suc a) n)) 0 ≡ all (λ i. not (p i)) (countFrom (suc a) n)
-none-found p a zero = refl
-none-found p a (suc n) = go (p (suc a)) (none-found p (suc a) n)
-  where
-    go : (b : Bool) → eqb (firstWhere p (countFrom (suc (suc a)) n)) 0 ≡ all (λ i. not (p i)) (countFrom (suc (suc a)) n)
-        → eqb (elim b [ true ↦ suc a | false ↦ firstWhere p (countFrom (suc (suc a)) n) ]) 0 ≡ not b && all (λ i. not (p i)) (countFrom (suc (suc a)) n)
-    go true rest = ne-eqb (suc a) 0 (omega arith)
-    go false rest = rest
 
 abbrev isTaken : Kernel → ℕ → ℕ → Bool
 isTaken k p b = not (eqb (k .pools .taken ! slot p b) 0)

@@ -1,11 +1,11 @@
 -- The statements and the tests of validity agree, clause by clause. Assumes nothing.
 use Prim.Native.Nat.{ℕ, suc, _*_, _-_, _≤_, _<_}
 use native.Mathlib.Omega.{arith}
-use mathlib.Core.Path.{_≡_, refl, sym}
+use mathlib.Core.Path.{_≡_, _∙_, refl, sym}
 use mathlib.Core.Logic.{_≢_, inl, inr}
-use mathlib.Core.Bool.{Bool, true, false, _&&_, not}
+use mathlib.Core.Bool.{Bool, true, _&&_, not}
 use mathlib.Core.List.{List, [], _∷_}
-use lib.ListN.{length, drop, length-take, length-drop}
+use lib.ListN.{length, getD, drop, length-take, length-drop}
 use lib.Dec.{eqb, leb}
 use borrow.Author.Tests.{eqb-false, ne-eqb}
 use Rattle.model.specs.Sizes.{tasks, priorities, mutexes, buffers, pools, blocks, messageBytes, regionBytes, blockBytes, poolBytes, storeBytes, outboxBytes, longest, endless}
@@ -18,16 +18,9 @@ use Rattle.model.specs.Message.{part, region}
 use Rattle.model.specs.Act.{firstFits}
 use Rattle.model.specs.Refusal.{aboveCeiling, freeBlock, poolSum, mutexAttributes, bufferAttributes, poolAttributes}
 use Rattle.model.specs.Valid.{Each, taskLists, mutexLists, bufferLists, poolLists, ByNumber, TaskLists, MutexLists, BufferLists, PoolLists, lists, Lengths, lengths, TaskRange, taskRange, MutexRange, mutexRange, BufferRange, bufferRange, PoolRange, poolRange, BlockFlag, blockFlag, Argument, argument, Wait, waitFields, awaitable, Arrivals, arrivals, Priorities, currentPriorities, Ceiling, ceiling, Locking, lockingTask, Getting, gettingTask, Receiving, receivingTask, FirstSender, firstSender, Outbox, outboxPart, RegionLayout, regionLayout, Valid, valid}
+use Rattle.model.proofs.FlagLaws.{joined-every, flag-set}
 use Rattle.message.proofs.Layouts.{layout-valid, valid-layout}
-use Rattle.valid.specs.Tests.{Agrees, and-agrees, or-agrees, implies-agrees, and3, and4, and5, eq-agrees, ne-agrees, le-agrees, lt-agrees, within-agrees, each-agrees, each-within, then-agrees, to-agrees, entries-agree, same-agrees, none-agrees, zero-agrees}
-
--- a test that is itself the statement
-itself : (b : Bool) → Agrees b (b ≡ true)
-itself b = ((λ e. e), (λ e. e))
-
-fails : (b : Bool) → Agrees (not b) (b ≡ false)
-fails true = ((λ e. sym e), (λ e. sym e))
-fails false = ((λ e. refl), (λ e. refl))
+use Rattle.valid.specs.Tests.{Agrees, itself, fails, and-agrees, or-agrees, implies-agrees, and3, and4, and5, eq-agrees, ne-agrees, le-agrees, lt-agrees, within-agrees, each-agrees, each-within, to-agrees, entries-agree, same-agrees, none-agrees, zero-agrees}
 
 -- ---- lists and lengths
 
@@ -235,34 +228,96 @@ flags-agree k =
     let a = to-agrees (λ p. all (blockFlag k p) (countFrom 0 (suc blocks))) (λ p. (b : ℕ) → b ≤ blocks → BlockFlag k p b) (λ p. to-agrees (blockFlag k p) (BlockFlag k p) (flag-agrees k p) blocks) pools in
     ((λ e p b h l. a .0 e p h b l), (λ f. a .1 (λ p h b l. f p b h l)))
 
+-- the clauses of `valid`, in its order
+abbrev pub asDefined : Lent → List Bool
+asDefined x =
+    let k = x .kernel in
+    lists tasks (taskLists k) ∷ lists mutexes (mutexLists k) ∷ lists buffers (bufferLists k) ∷ lists pools (poolLists k)
+    ∷ lengths x
+    ∷ all (taskRange k) (upTo tasks) ∷ all (mutexRange k) (upTo mutexes) ∷ all (bufferRange k) (upTo buffers) ∷ all (poolRange k) (upTo pools)
+    ∷ all (λ p. all (blockFlag k p) (countFrom 0 (suc blocks))) (countFrom 0 (suc pools))
+    ∷ leb (poolSum k) poolBytes
+    ∷ all (argument k) (upTo tasks) ∷ all (waitFields k) (upTo tasks)
+    ∷ arrivals k
+    ∷ currentPriorities k
+    ∷ all (λ t. all (ceiling k t) (upTo mutexes)) (upTo tasks) ∷ all (lockingTask k) (upTo tasks)
+    ∷ all (gettingTask k) (upTo tasks) ∷ all (receivingTask k) (upTo tasks) ∷ all (firstSender k) (upTo buffers)
+    ∷ all (regionLayout k (x .store)) (upTo buffers) ∷ all (outboxPart k (x .outbox)) (upTo tasks)
+    ∷ []
+
+infixr 20 _also_
+_also_ : {a b : Bool} → a ≡ true → b ≡ true → a && b ≡ true
+p also q = rw (p, q)
+
 module _ (x : Lent) where
   abbrev k : Kernel
   k = x .kernel
+
+  -- the areas are tested where they have their lengths, and a region where its buffer's numbers are in range
+  regions-agree : Lengths x → Each buffers (BufferRange k) → Agrees (all (regionLayout k (x .store)) (upTo buffers)) (Each buffers (RegionLayout k (x .store)))
+  regions-agree n r =
+      each-within (regionLayout k (x .store)) (RegionLayout k (x .store)) buffers (λ b low high. layout-agrees k (x .store) (n .store) b low high (r b low high))
+
+  parts-agree : Lengths x → Agrees (all (outboxPart k (x .outbox)) (upTo tasks)) (Each tasks (Outbox k (x .outbox)))
+  parts-agree n = each-within (outboxPart k (x .outbox)) (Outbox k (x .outbox)) tasks (outbox-agrees k (x .outbox) (n .outbox))
 
   -- The theorem: the test answers true exactly if every statement holds.
   pub valid-agrees : Agrees (valid x) (Valid x)
   unfolding valid
   valid-agrees =
-      let c0 = task-lists k in
-      let c1 = then-agrees _ _ c0 (λ q. mutex-lists k) in
-      let c2 = then-agrees _ _ c1 (λ q. buffer-lists k) in
-      let c3 = then-agrees _ _ c2 (λ q. pool-lists k) in
-      let c4 = then-agrees _ _ c3 (λ q. lengths-agree x) in
-      let c5 = then-agrees _ _ c4 (λ q. each-agrees (taskRange k) (TaskRange k) (task-agrees k) tasks) in
-      let c6 = then-agrees _ _ c5 (λ q. each-agrees (mutexRange k) (MutexRange k) (mutex-agrees k) mutexes) in
-      let c7 = then-agrees _ _ c6 (λ q. each-agrees (bufferRange k) (BufferRange k) (buffer-agrees k) buffers) in
-      let c8 = then-agrees _ _ c7 (λ q. each-agrees (poolRange k) (PoolRange k) (pool-agrees k) pools) in
-      let c9 = then-agrees _ _ c8 (λ q. flags-agree k) in
-      let c10 = then-agrees _ _ c9 (λ q. le-agrees (poolSum k) poolBytes) in
-      let c11 = then-agrees _ _ c10 (λ q. each-agrees (argument k) (Argument k) (argument-agrees k) tasks) in
-      let c12 = then-agrees _ _ c11 (λ q. each-agrees (waitFields k) (Wait k) (wait-agrees k) tasks) in
-      let c13 = then-agrees _ _ c12 (λ q. arrivals-agree k) in
-      let c14 = then-agrees _ _ c13 (λ q. priorities-agree k) in
-      let c15 = then-agrees _ _ c14 (λ q. each-agrees (λ t. all (ceiling k t) (upTo mutexes)) (λ t. Each mutexes (Ceiling k t)) (λ t. each-agrees (ceiling k t) (Ceiling k t) (ceiling-agrees k t) mutexes) tasks) in
-      let c16 = then-agrees _ _ c15 (λ q. each-agrees (lockingTask k) (Locking k) (locking-agrees k) tasks) in
-      let c17 = then-agrees _ _ c16 (λ q. each-agrees (gettingTask k) (Getting k) (getting-agrees k) tasks) in
-      let c18 = then-agrees _ _ c17 (λ q. each-agrees (receivingTask k) (Receiving k) (receiving-agrees k) tasks) in
-      let c19 = then-agrees _ _ c18 (λ q. each-agrees (firstSender k) (FirstSender k) (sender-agrees k) buffers) in
-      let c20 = then-agrees _ _ c19 (λ q. each-within (regionLayout k (x .store)) (RegionLayout k (x .store)) buffers (λ b low high. layout-agrees k (x .store) (search tt) b low high (let range : Each buffers (BufferRange k) = search tt in range b low high))) in
-      let c21 = then-agrees _ _ c20 (λ q. each-within (outboxPart k (x .outbox)) (Outbox k (x .outbox)) tasks (outbox-agrees k (x .outbox) (search tt))) in
-      ((λ e. let q = c21 .0 e in search tt), (λ v. c21 .1 (search tt)))
+      let ofTasks = task-lists k in
+      let ofMutexes = mutex-lists k in
+      let ofBuffers = buffer-lists k in
+      let ofPools = pool-lists k in
+      let long = lengths-agree x in
+      let task = each-agrees (taskRange k) (TaskRange k) (task-agrees k) tasks in
+      let mutex = each-agrees (mutexRange k) (MutexRange k) (mutex-agrees k) mutexes in
+      let buffer = each-agrees (bufferRange k) (BufferRange k) (buffer-agrees k) buffers in
+      let pool = each-agrees (poolRange k) (PoolRange k) (pool-agrees k) pools in
+      let flags = flags-agree k in
+      let total = le-agrees (poolSum k) poolBytes in
+      let args = each-agrees (argument k) (Argument k) (argument-agrees k) tasks in
+      let waits = each-agrees (waitFields k) (Wait k) (wait-agrees k) tasks in
+      let arrived = arrivals-agree k in
+      let current = priorities-agree k in
+      let ceilings = each-agrees (λ t. all (ceiling k t) (upTo mutexes)) (λ t. Each mutexes (Ceiling k t)) (λ t. each-agrees (ceiling k t) (Ceiling k t) (ceiling-agrees k t) mutexes) tasks in
+      let locks = each-agrees (lockingTask k) (Locking k) (locking-agrees k) tasks in
+      let gets = each-agrees (gettingTask k) (Getting k) (getting-agrees k) tasks in
+      let receives = each-agrees (receivingTask k) (Receiving k) (receiving-agrees k) tasks in
+      let sends = each-agrees (firstSender k) (FirstSender k) (sender-agrees k) buffers in (
+        (λ e.
+            let at : (i : ℕ) → getD (asDefined x) i true ≡ true = λ i. flag-set (asDefined x) i (sym (joined-every (asDefined x)) ∙ e) in
+            let n = long .0 (at 4) in
+            let r = buffer .0 (at 7) in
+            record {
+              isTaskLists = ofTasks .0 (at 0);
+              isMutexLists = ofMutexes .0 (at 1);
+              isBufferLists = ofBuffers .0 (at 2);
+              isPoolLists = ofPools .0 (at 3);
+              isLengths = n;
+              isTaskRange = task .0 (at 5);
+              isMutexRange = mutex .0 (at 6);
+              isBufferRange = r;
+              isPoolRange = pool .0 (at 8);
+              isBlockFlag = flags .0 (at 9);
+              isPoolSum = total .0 (at 10);
+              isArgument = args .0 (at 11);
+              isWait = waits .0 (at 12);
+              isArrivals = arrived .0 (at 13);
+              isPriorities = current .0 (at 14);
+              isCeiling = ceilings .0 (at 15);
+              isLocking = locks .0 (at 16);
+              isGetting = gets .0 (at 17);
+              isReceiving = receives .0 (at 18);
+              isFirstSender = sends .0 (at 19);
+              isLayout = regions-agree n r .0 (at 20);
+              isOutbox = parts-agree n .0 (at 21);
+            }),
+        (λ v.
+            joined-every (asDefined x)
+            ∙ (ofTasks .1 (v .isTaskLists) also ofMutexes .1 (v .isMutexLists) also ofBuffers .1 (v .isBufferLists) also ofPools .1 (v .isPoolLists) also long .1 (v .isLengths)
+            also task .1 (v .isTaskRange) also mutex .1 (v .isMutexRange) also buffer .1 (v .isBufferRange) also pool .1 (v .isPoolRange) also flags .1 (v .isBlockFlag) also total .1 (v .isPoolSum)
+            also args .1 (v .isArgument) also waits .1 (v .isWait) also arrived .1 (v .isArrivals) also current .1 (v .isPriorities) also ceilings .1 (v .isCeiling)
+            also locks .1 (v .isLocking) also gets .1 (v .isGetting) also receives .1 (v .isReceiving) also sends .1 (v .isFirstSender)
+            also regions-agree (v .isLengths) (v .isBufferRange) .1 (v .isLayout) also parts-agree (v .isLengths) .1 (v .isOutbox) also refl)),
+      )

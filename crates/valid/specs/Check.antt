@@ -11,6 +11,7 @@ use Rattle.model.specs.Kernel.{Kernel}
 use Rattle.model.specs.World.{Lent}
 use Rattle.model.specs.Refusal.{poolSum}
 use Rattle.model.specs.Valid.{lists, taskLists, mutexLists, bufferLists, poolLists, lengths, taskRange, mutexRange, bufferRange, poolRange, blockFlag, argument, waitFields, arrivals, currentPriorities, ceiling, lockingTask, gettingTask, receivingTask, firstSender, regionLayout, outboxPart, valid}
+use Rattle.valid.specs.Agree.{asDefined}
 use Rattle.model.proofs.FlagLaws.{every, joinedFlags, joined-every, passes, test-by-test, every-append, same-flags}
 use Rattle.model.specs.Words.{wordCount, kernel}
 
@@ -54,22 +55,6 @@ module _ (x : Lent) where
   abbrev k : Kernel
   k = x .kernel
 
-  -- the definition's clauses in its own order
-  abbrev asDefined : List Bool
-  asDefined =
-      lists tasks (taskLists k) ∷ lists mutexes (mutexLists k) ∷ lists buffers (bufferLists k) ∷ lists pools (poolLists k)
-      ∷ lengths x
-      ∷ all (taskRange k) (upTo tasks) ∷ all (mutexRange k) (upTo mutexes) ∷ all (bufferRange k) (upTo buffers) ∷ all (poolRange k) (upTo pools)
-      ∷ blockFlags k
-      ∷ leb (poolSum k) poolBytes
-      ∷ all (argument k) (upTo tasks) ∷ all (waitFields k) (upTo tasks)
-      ∷ arrivals k
-      ∷ currentPriorities k
-      ∷ all (λ t. all (ceiling k t) (upTo mutexes)) (upTo tasks) ∷ all (lockingTask k) (upTo tasks)
-      ∷ all (gettingTask k) (upTo tasks) ∷ all (receivingTask k) (upTo tasks) ∷ all (firstSender k) (upTo buffers)
-      ∷ all (regionLayout k (x .store)) (upTo buffers) ∷ all (outboxPart k (x .outbox)) (upTo tasks)
-      ∷ []
-
   -- the same, kind by kind
   abbrev ofLists : List Bool
   ofLists = lists tasks (taskLists k) ∷ lists mutexes (mutexLists k) ∷ lists buffers (bufferLists k) ∷ lists pools (poolLists k) ∷ []
@@ -88,12 +73,12 @@ module _ (x : Lent) where
   abbrev byKind : List Bool
   byKind = lengths x ∷ (ofLists ++ (ofTasks ++ (all (mutexRange k) (upTo mutexes) ∷ (ofBuffers ++ ofOthers))))
 
-  reordered : every asDefined ≡ every byKind
+  reordered : every (asDefined x) ≡ every byKind
   reordered =
       same-flags
       (4 ∷ 0 ∷ 1 ∷ 2 ∷ 3 ∷ 5 ∷ 11 ∷ 12 ∷ 15 ∷ 16 ∷ 17 ∷ 18 ∷ 6 ∷ 7 ∷ 19 ∷ 8 ∷ 9 ∷ 10 ∷ 13 ∷ 14 ∷ 20 ∷ 21 ∷ [])
       (1 ∷ 2 ∷ 3 ∷ 4 ∷ 0 ∷ 5 ∷ 12 ∷ 13 ∷ 15 ∷ 16 ∷ 17 ∷ 6 ∷ 7 ∷ 18 ∷ 19 ∷ 8 ∷ 9 ∷ 10 ∷ 11 ∷ 14 ∷ 20 ∷ 21 ∷ [])
-      asDefined byKind refl refl
+      (asDefined x) byKind refl refl
 
   grouped : (len : Bool) (ls ts : List Bool) (m : Bool) (bs os : List Bool)
       → every (len ∷ (ls ++ (ts ++ (m ∷ (bs ++ os))))) ≡ every (len ∷ every ls ∷ every ts ∷ m ∷ every bs ∷ os)
@@ -106,5 +91,5 @@ module _ (x : Lent) where
   pub kind-by-kind : valid x ≡ joinedFlags (lengths x ∷ noneZero k ∷ clauses x)
   unfolding valid
   kind-by-kind =
-      joined-every asDefined ∙ reordered ∙ grouped (lengths x) ofLists ofTasks (all (mutexRange k) (upTo mutexes)) ofBuffers ofOthers ∙ by-loop
+      joined-every (asDefined x) ∙ reordered ∙ grouped (lengths x) ofLists ofTasks (all (mutexRange k) (upTo mutexes)) ofBuffers ofOthers ∙ by-loop
       ∙ sym (joined-every (lengths x ∷ noneZero k ∷ clauses x))

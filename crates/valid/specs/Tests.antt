@@ -2,13 +2,13 @@
 use Prim.Native.Nat.{ℕ, zero, suc, _+_, _≤_, _<_}
 use native.Mathlib.Decide.{ℕ-discrete}
 use native.Mathlib.Omega.{arith}
-use mathlib.Core.Path.{_≡_, _∙_, refl, sym, subst}
+use mathlib.Core.Path.{_≡_, refl, sym, subst}
 use mathlib.Core.Logic.{_≢_, _⊎_, inl, inr, _↔_}
-use mathlib.Core.Bool.{Bool, true, false, _&&_, _||_, not, false≢true, true≢false}
+use mathlib.Core.Bool.{Bool, true, false, _&&_, _||_, not, false≢true}
 use mathlib.Core.List.{List, [], _∷_}
 use lib.ListN.{length}
 use lib.Dec.{eqb, leb, ltb}
-use borrow.Author.Tests.{eqb-true, eq-eqb, leb-true, le-leb, ltb-true, lt-ltb}
+use borrow.Author.Tests.{eqb-true, eq-eqb, ne-eqb, leb-true, le-leb, ltb-true, lt-ltb}
 use Rattle.model.specs.Lists.{_!_, firstWhere, all, countFrom, upTo, implies, within, same, allZero, zeros}
 use Rattle.model.specs.Valid.{From, Each}
 
@@ -36,6 +36,14 @@ module _ {A : Type 0} where
   pub not-agrees : (a : Bool) → Agrees a A → Agrees (not a) (A → ⊥)
   not-agrees true f = ((λ e. absurd (false≢true e)), (λ h. absurd (h (f .0 refl))))
   not-agrees false f = ((λ e p. false≢true (f .1 p)), (λ h. refl))
+
+-- a test that is itself the statement, and one that fails
+pub itself : (b : Bool) → Agrees b (b ≡ true)
+itself b = ((λ e. e), (λ e. e))
+
+pub fails : (b : Bool) → Agrees (not b) (b ≡ false)
+fails true = ((λ e. sym e), (λ e. sym e))
+fails false = ((λ e. refl), (λ e. refl))
 
 -- more than two parts side by side
 module _ {A B C : Type 0} where
@@ -73,87 +81,7 @@ within-agrees low high n = and-agrees (leb low n) (leb n high) (le-agrees low n)
 
 -- ---- lists
 
--- of each number from a on
-module _ (p : ℕ → Bool) (P : ℕ → Type 0) (h : (i : ℕ) → Agrees (p i) (P i)) where
-  split-first : (a n : ℕ) → P a → ((i : ℕ) → suc a ≤ i → i < suc a + n → P i) → (i : ℕ) → a ≤ i → i < a + suc n → P i
-  split-first a n first rest i low high = go (ℕ-discrete a i)
-    where
-      go : Dec (a ≡ i) → P i
-      go (yes e) = subst P e first
-      go (no d) = rest i (omega arith) (omega arith)
-
-  pub from-agrees : (a n : ℕ) → Agrees (all p (countFrom a n)) ((i : ℕ) → a ≤ i → i < a + n → P i)
-  from-agrees a zero = ((λ e i low high. absurd (omega arith)), (λ f. refl))
-  from-agrees a (suc n) =
-      let k = and-agrees (p a) (all p (countFrom (suc a) n)) (h a) (from-agrees (suc a) n) in
-      ((λ e. split-first a n (k .0 e .0) (k .0 e .1)), (λ f. k .1 (f a (omega arith) (omega arith), (λ i low high. f i (omega arith) (omega arith)))))
-
-  -- of the numbers 1 to n, and of 0 to n
-  pub each-agrees : (n : ℕ) → Agrees (all p (upTo n)) (Each n P)
-  each-agrees n =
-      let k = from-agrees 1 n in
-      ((λ e i low high. k .0 e i low (omega arith)), (λ f. k .1 (λ i low high. f i low (omega arith))))
-
-  pub to-agrees : (n : ℕ) → Agrees (all p (countFrom 0 (suc n))) ((i : ℕ) → i ≤ n → P i)
-  to-agrees n =
-      let k = from-agrees 0 (suc n) in
-      ((λ e i high. k .0 e i (omega arith) (omega arith)), (λ f. k .1 (λ i low high. f i (omega arith))))
-
-  -- of each entry of a list; beyond its end stands 0
-  pub entries-agree : P 0 → (xs : List ℕ) → Agrees (all p xs) ((i : ℕ) → P (xs ! i))
-  entries-agree z [] = ((λ e i. z), (λ f. refl))
-  entries-agree z (x ∷ xs) =
-      let k = and-agrees (p x) (all p xs) (h x) (entries-agree z xs) in
-      ((λ e. at (k .0 e)), (λ f. k .1 (f 0, (λ i. f (suc i)))))
-    where
-      at : P x × ((i : ℕ) → P (xs ! i)) → (i : ℕ) → P ((x ∷ xs) ! i)
-      at q zero = q .0
-      at q (suc i) = q .1 i
-
-pub same-agrees : (xs ys : List ℕ) → Agrees (same xs ys) (xs ≡ ys)
-same-agrees [] [] = ((λ e. refl), (λ e. refl))
-same-agrees [] (y ∷ ys) = ((λ e. absurd (false≢true e)), (λ e. absurd (apart (cc))))
-  where
-    apart : _≡_ {A = ℕ} 0 1 → ⊥
-    apart e = omega arith
-same-agrees (x ∷ xs) [] = ((λ e. absurd (false≢true e)), (λ e. absurd (apart (cc))))
-  where
-    apart : _≡_ {A = ℕ} 0 1 → ⊥
-    apart e = omega arith
-same-agrees (x ∷ xs) (y ∷ ys) =
-    let k = and-agrees (eqb x y) (same xs ys) (eq-agrees x y) (same-agrees xs ys) in
-    ((λ e. let q = k .0 e in cc), (λ e. k .1 ((cc), (cc))))
-
-pub zero-agrees : (xs : List ℕ) → Agrees (allZero xs) (xs ≡ zeros (length xs))
-zero-agrees [] = ((λ e. refl), (λ e. refl))
-zero-agrees (x ∷ xs) =
-    let k = and-agrees (eqb 0 x) (allZero xs) (eq-agrees 0 x) (zero-agrees xs) in
-    ((λ e. let q = k .0 e in cc), (λ e. k .1 ((cc), (cc))))
-
--- a search among the numbers 1 to n finds nothing
-module _ (p : ℕ → Bool) where
-  none-from : (a n : ℕ) → 1 ≤ a → Agrees (eqb (firstWhere p (countFrom a n)) 0) ((i : ℕ) → a ≤ i → i < a + n → p i ≡ false)
-  none-from a zero l = ((λ e i low high. absurd (omega arith)), (λ f. refl))
-  none-from a (suc n) l = go (p a) refl (none-from (suc a) n (omega arith))
-    where
-      rest-of : p a ≡ false → ((i : ℕ) → suc a ≤ i → i < suc a + n → p i ≡ false) → (i : ℕ) → a ≤ i → i < a + suc n → p i ≡ false
-      rest-of e f i low high = at (ℕ-discrete a i)
-        where
-          at : Dec (a ≡ i) → p i ≡ false
-          at (yes q) = subst (λ (j : ℕ). p j ≡ false) q e
-          at (no d) = f i (omega arith) (omega arith)
-
-      go : (b : Bool) → p a ≡ b → Agrees (eqb (firstWhere p (countFrom (suc a) n)) 0) ((i : ℕ) → suc a ≤ i → i < suc a + n → p i ≡ false)
-          → Agrees (eqb (firstWhere p (countFrom a (suc n))) 0) ((i : ℕ) → a ≤ i → i < a + suc n → p i ≡ false)
-      go true e rest = rw (e, firstWhere) ((λ q. let z = eqb-true a 0 q in absurd (omega arith)), (λ f. absurd (true≢false (sym e ∙ f a (omega arith) (omega arith)))))
-      go false e rest = rw (e, firstWhere) ((λ q. rest-of e (rest .0 q)), (λ f. rest .1 (λ i low high. f i (omega arith) (omega arith))))
-
-  pub none-agrees : (n : ℕ) → Agrees (eqb (firstWhere p (upTo n)) 0) (Each n (λ i. p i ≡ false))
-  none-agrees n =
-      let k = none-from 1 n (omega arith) in
-      ((λ e i low high. k .0 e i low (omega arith)), (λ f. k .1 (λ i low high. f i low (omega arith))))
-
--- of the numbers 1 to n, where the test is known to agree only there
+-- of each number from a on, where the test is known to agree there
 module _ (p : ℕ → Bool) (P : ℕ → Type 0) where
   within-from : (a n : ℕ) → ((i : ℕ) → a ≤ i → i < a + n → Agrees (p i) (P i)) → Agrees (all p (countFrom a n)) ((i : ℕ) → a ≤ i → i < a + n → P i)
   within-from a zero h = ((λ e i low high. absurd (omega arith)), (λ f. refl))
@@ -168,12 +96,60 @@ module _ (p : ℕ → Bool) (P : ℕ → Type 0) where
           go (yes e) = subst P e (q .0)
           go (no d) = q .1 i (omega arith) (omega arith)
 
+  -- of the numbers 1 to n
   pub each-within : (n : ℕ) → ((i : ℕ) → 1 ≤ i → i ≤ n → Agrees (p i) (P i)) → Agrees (all p (upTo n)) (Each n P)
   each-within n h =
       let k = within-from 1 n (λ i low high. h i low (omega arith)) in
       ((λ e i low high. k .0 e i low (omega arith)), (λ f. k .1 (λ i low high. f i low (omega arith))))
 
--- one test more, whose agreement may rest on what the tests before it say
-pub then-agrees : {A B : Type 0} (a b : Bool) → Agrees a A → (A → Agrees b B) → Agrees (a && b) (A × B)
-then-agrees true b f g = let q = f .0 refl in ((λ e. (q, g q .0 e)), (λ r. g (r .0) .1 (r .1)))
-then-agrees false b f g = ((λ e. absurd (false≢true e)), (λ r. f .1 (r .0)))
+module _ (p : ℕ → Bool) (P : ℕ → Type 0) (h : (i : ℕ) → Agrees (p i) (P i)) where
+  -- of the numbers 1 to n, and of 0 to n
+  pub each-agrees : (n : ℕ) → Agrees (all p (upTo n)) (Each n P)
+  each-agrees n = each-within p P n (λ i low high. h i)
+
+  pub to-agrees : (n : ℕ) → Agrees (all p (countFrom 0 (suc n))) ((i : ℕ) → i ≤ n → P i)
+  to-agrees n =
+      let k = within-from p P 0 (suc n) (λ i low high. h i) in
+      ((λ e i high. k .0 e i (omega arith) (omega arith)), (λ f. k .1 (λ i low high. f i (omega arith))))
+
+  -- of each entry of a list; beyond its end stands 0
+  pub entries-agree : P 0 → (xs : List ℕ) → Agrees (all p xs) ((i : ℕ) → P (xs ! i))
+  entries-agree z [] = ((λ e i. z), (λ f. refl))
+  entries-agree z (x ∷ xs) =
+      let k = and-agrees (p x) (all p xs) (h x) (entries-agree z xs) in
+      ((λ e. at (k .0 e)), (λ f. k .1 (f 0, (λ i. f (suc i)))))
+    where
+      at : P x × ((i : ℕ) → P (xs ! i)) → (i : ℕ) → P ((x ∷ xs) ! i)
+      at q zero = q .0
+      at q (suc i) = q .1 i
+
+-- two constructors are never equal
+apart : _≡_ {A = ℕ} 0 1 → ⊥
+apart e = omega arith
+
+pub same-agrees : (xs ys : List ℕ) → Agrees (same xs ys) (xs ≡ ys)
+same-agrees [] [] = ((λ e. refl), (λ e. refl))
+same-agrees [] (y ∷ ys) = ((λ e. absurd (false≢true e)), (λ e. absurd (apart (cc))))
+same-agrees (x ∷ xs) [] = ((λ e. absurd (false≢true e)), (λ e. absurd (apart (cc))))
+same-agrees (x ∷ xs) (y ∷ ys) =
+    let k = and-agrees (eqb x y) (same xs ys) (eq-agrees x y) (same-agrees xs ys) in
+    ((λ e. let q = k .0 e in cc), (λ e. k .1 ((cc), (cc))))
+
+pub zero-agrees : (xs : List ℕ) → Agrees (allZero xs) (xs ≡ zeros (length xs))
+zero-agrees [] = ((λ e. refl), (λ e. refl))
+zero-agrees (x ∷ xs) =
+    let k = and-agrees (eqb 0 x) (allZero xs) (eq-agrees 0 x) (zero-agrees xs) in
+    ((λ e. let q = k .0 e in cc), (λ e. k .1 ((cc), (cc))))
+
+-- a search among the numbers 1 to n finds nothing exactly if every number fails
+pub none-found : (p : ℕ → Bool) (a n : ℕ) → eqb (firstWhere p (countFrom (suc a) n)) 0 ≡ all (λ i. not (p i)) (countFrom (suc a) n)
+none-found p a zero = refl
+none-found p a (suc n) = go (p (suc a)) (none-found p (suc a) n)
+  where
+    go : (b : Bool) → eqb (firstWhere p (countFrom (suc (suc a)) n)) 0 ≡ all (λ i. not (p i)) (countFrom (suc (suc a)) n)
+        → eqb (elim b [ true ↦ suc a | false ↦ firstWhere p (countFrom (suc (suc a)) n) ]) 0 ≡ not b && all (λ i. not (p i)) (countFrom (suc (suc a)) n)
+    go true rest = ne-eqb (suc a) 0 (omega arith)
+    go false rest = rest
+
+pub none-agrees : (p : ℕ → Bool) (n : ℕ) → Agrees (eqb (firstWhere p (upTo n)) 0) (Each n (λ i. p i ≡ false))
+none-agrees p n = rw (none-found p 0 n) (each-agrees (λ i. not (p i)) (λ i. p i ≡ false) (λ i. fails (p i)) n)

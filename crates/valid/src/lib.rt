@@ -1,14 +1,14 @@
 // The check of a lent state: whether it and the two lent areas are valid, 01's "Sound".
-pub mod arrival;
-pub mod ceiling;
-pub mod current;
-pub mod entry;
+mod arrival;
+mod ceiling;
+mod current;
+mod entry;
 pub mod next;
-pub mod object;
-pub mod pool;
-pub mod range;
-pub mod wait;
-pub mod waiter;
+mod object;
+mod pool;
+mod range;
+mod wait;
+mod waiter;
 
 use areas::layout::regions_laid_out;
 use areas::outbox::outbox_laid_out;

@@ -9,7 +9,7 @@ use Rattle.valid.proofs.object.buffer_valid.Tie as tie
 returns : tie.Need-returns
 returns c =
     let a = c .before .before .before .args in
-    cc (asked-together (bufferTests (kernel (a .state .now))) (a .b .0))
+    rw (c .first-sender .ensures, c .before .buffer-range .ensures) (asked-together (bufferTests (kernel (a .state .now))) (a .b .0))
 
 pub buffer-valid-spec : {M : Type 1} → statement M
 buffer-valid-spec = tie.close (tie.spec (λ c κs. search needs) (λ c κs. search needs) returns)

@@ -10,7 +10,16 @@ returns : tie.Need-returns
 returns c =
     let w = c .before .before .before in
     let a = w .before .before .before .before .before .args in
-    cc (asked-together (taskTests (kernel (a .state .now))) (a .t .0))
+    rw (
+      c .receiving-task .ensures,
+      c .before .getting-task .ensures,
+      c .before .before .locking-task .ensures,
+      w .ceilings-of .ensures,
+      w .before .wait-fields .ensures,
+      w .before .before .argument .ensures,
+      w .before .before .before .task-range .ensures,
+    )
+    (asked-together (taskTests (kernel (a .state .now))) (a .t .0))
 
 pub task-valid-spec : {M : Type 1} → statement M
 task-valid-spec =

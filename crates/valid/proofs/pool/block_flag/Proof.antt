@@ -6,7 +6,8 @@ use Rattle.valid.proofs.pool.block_flag.Tie as tie
 
 returns : tie.Need-returns
 unfolding blockFlag
-returns c = cc
+returns c =
+    rw (c .within .ensures, c .before .count .ensures, c .before .before .taken .ensures)
 
 pub block-flag-spec : {M : Type 1} → statement M
 block-flag-spec =

@@ -6,7 +6,8 @@ use Rattle.valid.proofs.waiter.getting_task.Tie as tie
 
 returns : tie.Need-returns
 unfolding gettingTask
-returns c = cc
+returns c =
+    rw (c .none-free .ensures, c .before .object .ensures, c .before .before .place .ensures)
 
 pub getting-task-spec : {M : Type 1} → statement M
 getting-task-spec =

@@ -4,7 +4,8 @@ use Rattle.valid.proofs.waiter.no_sender.Statement.{statement}
 use Rattle.valid.proofs.waiter.no_sender.Tie as tie
 
 returns : tie.Need-returns
-returns c = cc
+returns c =
+    rw (c .object .ensures, c .before .place .ensures)
 
 pub no-sender-spec : {M : Type 1} → statement M
 no-sender-spec =
