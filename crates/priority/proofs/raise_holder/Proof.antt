@@ -39,13 +39,5 @@ returns-2 c =
 pub raise-holder-spec : {M : Type 1} → statement M
 raise-holder-spec =
     tie.close
-    (tie.spec
-    (λ c κs. search needs)
-    (λ c. search needs)
-    own-priority-requires
-    raise-task-requires
-    (λ c. search needs)
-    (λ c. search needs)
-    returns
-    (λ c. search needs)
-    returns-2)
+    (tie.spec (λ c κs. search needs) (λ c. search needs) own-priority-requires raise-task-requires (λ c. search needs) (λ c. search needs)
+    returns (λ c. search needs) returns-2)

@@ -36,12 +36,5 @@ returns-2 c =
 pub raise-to-base-spec : {M : Type 1} → statement M
 raise-to-base-spec =
     tie.close
-    (tie.spec
-    (λ c κs. search needs)
-    (λ c. search needs)
-    (λ c κs. search needs)
-    raise-task-requires
-    (λ c. search needs)
-    (λ c. search needs)
-    returns
-    returns-2)
+    (tie.spec (λ c κs. search needs) (λ c. search needs) (λ c κs. search needs) raise-task-requires (λ c. search needs) (λ c. search needs)
+    returns returns-2)

@@ -52,15 +52,5 @@ returns c =
 pub raise-to-bases-spec : {M : Type 1} → statement M
 raise-to-bases-spec =
     tie.close
-    (tie.spec
-    Inv-loop
-    μ-loop
-    (λ c κs. search needs)
-    loop-holds
-    (λ c. search needs)
-    raise-to-base-requires
-    (λ c. search needs)
-    (λ c. omega arith)
-    loop-again
-    same-length
-    returns)
+    (tie.spec Inv-loop μ-loop (λ c κs. search needs) loop-holds (λ c. search needs) raise-to-base-requires (λ c. search needs) (λ c. omega arith)
+    loop-again same-length returns)

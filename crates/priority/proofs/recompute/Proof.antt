@@ -53,15 +53,5 @@ returns c =
 pub recompute-spec : {M : Type 1} → statement M
 recompute-spec =
     tie.close
-    (tie.spec
-    Inv-loop
-    μ-loop
-    (λ c κs. search needs)
-    loop-holds
-    (λ c. search needs)
-    raise-holder-requires
-    (λ c. search needs)
-    (λ c. omega arith)
-    loop-again
-    same-length
-    returns)
+    (tie.spec Inv-loop μ-loop (λ c κs. search needs) loop-holds (λ c. search needs) raise-holder-requires (λ c. search needs) (λ c. omega arith)
+    loop-again same-length returns)

@@ -4,13 +4,9 @@ use Rattle.model.specs.Valid.{lockingTask}
 use Rattle.valid.proofs.wait.locking_task.Statement.{statement}
 use Rattle.valid.proofs.wait.locking_task.Tie as tie
 
-returns : tie.Need-returns
-unfolding lockingTask
-returns c =
-    let r = c .before .before .before in
-    rw (c .word .ensures, c .before .holder .ensures, c .before .before .object .ensures, r .place .ensures)
-
 pub locking-task-spec : {M : Type 1} → statement M
+unfolding lockingTask
 locking-task-spec =
     tie.close
-    (tie.spec (λ c κs. search needs) (λ c κs. search needs) (λ c κs. search needs) (λ c κs. search needs) returns)
+    (tie.spec (λ c κs. search needs) (λ c κs. search needs) (λ c κs. search needs) (λ c κs. search needs)
+    (λ c. let r = c .before .before .before in rw (c .word .ensures, c .before .holder .ensures, c .before .before .object .ensures, r .place .ensures)))

@@ -4,13 +4,9 @@ use Rattle.model.specs.Valid.{receivingTask}
 use Rattle.valid.proofs.waiter.receiving_task.Statement.{statement}
 use Rattle.valid.proofs.waiter.receiving_task.Tie as tie
 
-returns : tie.Need-returns
-unfolding receivingTask
-returns c =
-    let r = c .before .before .before in
-    rw (c .no-senders .ensures, c .before .used .ensures, c .before .before .object .ensures, r .place .ensures)
-
 pub receiving-task-spec : {M : Type 1} → statement M
+unfolding receivingTask
 receiving-task-spec =
     tie.close
-    (tie.spec (λ c κs. search needs) (λ c κs. search needs) (λ c κs. search needs) (λ c κs. search needs) returns)
+    (tie.spec (λ c κs. search needs) (λ c κs. search needs) (λ c κs. search needs) (λ c κs. search needs)
+    (λ c. let r = c .before .before .before in rw (c .no-senders .ensures, c .before .used .ensures, c .before .before .object .ensures, r .place .ensures)))
