@@ -290,4 +290,4 @@ fn main() {
 """
 
 if __name__ == "__main__":
-    run(CRATE, "state priority", PROGRAM, lambda folder: sys.argv[1:] or ["2000", "101", "3"])
+    run(CRATE, "model state priority", PROGRAM, lambda folder: sys.argv[1:] or ["2000", "101", "3"])
