@@ -5,7 +5,7 @@ use native.Mathlib.Nat.{zero-add, suc-add, mul-le-mul-right}
 use native.Mathlib.Omega.{arith}
 use mathlib.Core.List.{List, [], _∷_, _++_, append-assoc}
 use mathlib.Core.Path.{_≡_, _∙_, refl, sym, ap}
-use lib.ListN.{length, take, drop, length-append, length-take, length-drop, length-replicate}
+use lib.ListN.{length, take, drop, length-append, length-take}
 use lib.Seq.{take-at, drop-at, take-take, take-nil, length-take-le, drop-append-add, drop-drop, sets-eq, length-sets}
 use Rattle.model.specs.Sizes.{regionBytes, messageBytes}
 use Rattle.model.specs.Lists.{zeros, padded}

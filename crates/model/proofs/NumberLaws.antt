@@ -23,10 +23,8 @@ use Rattle.model.specs.declared.number.MaybeTask.the-variants.{Task, Not
 use Rattle.model.specs.declared.number.MutexNumber.{MutexNumber}
 use Rattle.model.specs.declared.number.MaybeMutex.{MaybeMutex}
 use Rattle.model.specs.declared.number.MaybeMutex.the-variants.{Mutex, Nothing as NoMutex}
-use Rattle.model.specs.declared.number.BufferNumber.{BufferNumber}
 use Rattle.model.specs.declared.number.MaybeBuffer.{MaybeBuffer}
 use Rattle.model.specs.declared.number.MaybeBuffer.the-variants.{Buffer, Nothing as NoBuffer}
-use Rattle.model.specs.declared.number.PoolNumber.{PoolNumber}
 use Rattle.model.specs.declared.number.MaybePool.{MaybePool}
 use Rattle.model.specs.declared.number.MaybePool.the-variants.{Pool, Nothing as NoPool}
 

@@ -1,19 +1,19 @@
 -- What arrivals and departures do to any queue, and why the arrival order is never used up. Assumes nothing.
-use Prim.Native.Nat.{ℕ, zero, suc, _+_, _-_, _≤_, _<_, min}
+use Prim.Native.Nat.{ℕ, zero, suc, _+_, _-_, _≤_, _<_}
 use native.Mathlib.Nat.{sub-zero, suc-sub-suc}
 use native.Mathlib.Decide.{ℕ-discrete}
 use native.Mathlib.Omega.{arith}
-use mathlib.Core.Path.{_≡_, _∙_, refl, sym, ap, subst}
+use mathlib.Core.Path.{_≡_, _∙_, refl, sym, ap}
 use mathlib.Core.Logic.{_≢_, _⊎_, inl, inr}
 use mathlib.Core.Bool.{Bool, true, false, _&&_, _||_, not, false≢true}
 use mathlib.Core.List.{List, [], _∷_, _++_, append-nil}
-use lib.ListN.{length, take, replicate, length-append, length-take, length-replicate}
+use lib.ListN.{length, take, length-append}
 use lib.Seq.{getD-set-same, getD-set-other}
 use lib.Dec.{eqb}
-use borrow.Author.Tests.{eqb-true, eqb-false, eq-eqb, ne-eqb, le-leb}
+use borrow.Author.Tests.{eqb-true, eq-eqb, ne-eqb, le-leb}
 use Rattle.model.specs.Sizes.{tasks}
-use Rattle.model.specs.Lists.{countFrom, upTo, zeros, padded, keep, select, member, without, occurrences}
-use Rattle.model.specs.Facts.{Queue, dormant}
+use Rattle.model.specs.Lists.{upTo, zeros, padded, keep, select, member, without, occurrences}
+use Rattle.model.specs.Facts.{Queue}
 use Rattle.model.specs.Kernel.{Kernel, others, departed, arrived, standsIn, facts, withArrivals, withPlace, withObject, withCurrents}
 use Rattle.model.specs.Act.{arrive}
 use Rattle.model.proofs.ListLaws.{or-elim, or-left, or-right, without-keeps, without-shorter, length-countFrom, member-countFrom, member-append}

@@ -15,9 +15,9 @@ use Rattle.model.specs.Lists.{_!_, zeros}
 use Rattle.model.specs.Facts.{queue}
 use Rattle.model.specs.Kernel.{Kernel, others, departed, arrived, withArrivals, withPlace, withObject}
 use Rattle.model.specs.Act.{arrive}
-use Rattle.model.specs.Words.{wordCount, sizes, fields, kernel}
+use Rattle.model.specs.Words.{wordCount, kernel}
 use Rattle.state.specs.Words.{withArrival, Represents}
-use Rattle.state.proofs.WordLaws.{arrivals-long, sized, size-of}
+use Rattle.state.proofs.WordLaws.{arrivals-long}
 use Rattle.model.specs.Field as field
 use Rattle.queue.specs.Arriving.{Kept, Gathered, clearedFrom, other, keptArrivals, keptCount}
 use Rattle.queue.proofs.Gather.{gathered, count, gathered-start, count-start, gathered-step, gathered-all, count-step, count-all, count-le, set-seam, cleared, departed-is, arrived-is}

@@ -1,12 +1,12 @@
 -- The front of any queue of the kernel, as the searches find it, and who would head it. Assumes nothing.
-use Prim.Native.Nat.{ℕ, suc, _≤_, _<_}
+use Prim.Native.Nat.{ℕ, _≤_}
 use native.Mathlib.Omega.{arith}
 use mathlib.Core.Path.{_≡_, _∙_, refl, sym, ap, ap₂, subst}
 use mathlib.Core.Logic.{_≢_, _⊎_, inl, inr}
 use mathlib.Core.Bool.{Bool, true, false, cond}
 use mathlib.Core.List.{List, [], _∷_, _++_}
 use lib.Dec.{eqb, ltb}
-use borrow.Author.Tests.{eq-eqb, ne-eqb, eqb-true, lt-ltb, le-ltb}
+use borrow.Author.Tests.{eq-eqb, ne-eqb}
 use Rattle.model.specs.Sizes.{tasks}
 use Rattle.model.specs.Lists.{_!_, select, member, headOf}
 use Rattle.model.specs.Number.{wordNumber, maybeTask}
@@ -21,7 +21,7 @@ use Rattle.model.specs.declared.number.MaybeTask.{MaybeTask}
 use Rattle.model.specs.declared.number.MaybeTask as mTask
 use Rattle.model.proofs.NumberLaws.{word-in-range, task-is, task-is-none}
 use Rattle.queue.proofs.ArrivalLaws.{member-select}
-use Rattle.queue.proofs.First.{First, sorted-first, first-unique, last-first}
+use Rattle.queue.proofs.First.{sorted-first, first-unique, last-first}
 use Rattle.queue.proofs.Standing.{stands-task}
 
 module _ (k : Kernel) (q : Queue) where

@@ -1,17 +1,15 @@
 -- How the arrival order is changed in place: the others move to the front, one place after the other. Assumes nothing.
-use Prim.Native.Nat.{ℕ, zero, suc, _+_, _-_, _≤_, _<_, min}
-use native.Mathlib.Nat.{zero-add, add-zero}
+use Prim.Native.Nat.{ℕ, suc, _+_, _-_, _≤_, _<_}
 use native.Mathlib.Decide.{decLt}
 use native.Mathlib.Numerals.{add-one}
 use native.Mathlib.Omega.{arith}
 use mathlib.Core.Path.{_≡_, _∙_, refl, sym, ap}
-use mathlib.Core.Bool.{Bool, true, false, _&&_, not, cond}
+use mathlib.Core.Bool.{Bool, true, false, cond}
 use mathlib.Core.List.{List, [], _∷_, _++_, append-nil, append-assoc}
 use lib.ListN.{length, getD, take, drop, set, length-append, length-take, length-drop, length-set, drop-of-length-le}
 use lib.Seq.{take-suc, drop-cons, getD-append-add, getD-drop, take-length, take-all, take-append-seam, take-append-add}
-use lib.Dec.{eqb}
 use Rattle.model.specs.Lists.{_!_, keep, select, padded, zeros}
-use Rattle.model.specs.Kernel.{Kernel, others, departed, arrived, withArrivals}
+use Rattle.model.specs.Kernel.{others, departed, arrived}
 use Rattle.queue.specs.Arriving.{other, keptArrivals, keptCount}
 use Rattle.queue.proofs.ArrivalLaws.{select-append, length-others, padded-is}
 

@@ -1,15 +1,15 @@
 -- The next to run, found priority by priority, is the first of the ready queue. Assumes nothing.
 use Prim.Native.Nat.{ℕ, zero, suc, _+_, _≤_, _<_}
 use native.Mathlib.Omega.{arith}
-use mathlib.Core.Path.{_≡_, _∙_, refl, sym, ap, subst}
+use mathlib.Core.Path.{_≡_, refl, sym, ap, subst}
 use mathlib.Core.Logic.{_≢_, _⊎_, inl, inr}
-use mathlib.Core.Bool.{Bool, true, false, _||_, false≢true}
+use mathlib.Core.Bool.{Bool, true, false, false≢true}
 use mathlib.Core.List.{List, [], _∷_, _++_}
 use lib.Dec.{eqb}
 use borrow.Author.Tests.{eqb-true, eqb-false, eq-eqb}
 use Rattle.model.specs.Sizes.{priorities}
 use Rattle.model.specs.Lists.{_!_, countFrom, upTo, member, firstWhere, headOf}
-use Rattle.model.specs.Facts.{Facts, readyQueue, ready}
+use Rattle.model.specs.Facts.{Facts, readyQueue}
 use Rattle.model.specs.Queue.{byPriority, sorted, ordered, order, front, searchReady, nextToRun}
 use Rattle.model.proofs.ListLaws.{or-elim, or-left, or-right, member-left, member-right, member-middle}
 use Rattle.queue.proofs.First.{First, sorted-first, first-unique}

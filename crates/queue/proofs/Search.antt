@@ -1,21 +1,21 @@
 -- The searches of a queue, place after place of the arrival order: what is left to look at decides what is found. Assumes nothing.
-use Prim.Native.Nat.{ℕ, zero, suc, _+_, _≤_, _<_}
+use Prim.Native.Nat.{ℕ, _+_, _≤_, _<_}
 use native.Mathlib.Numerals.{add-one}
 use native.Mathlib.Omega.{arith}
 use mathlib.Core.Path.{_≡_, _∙_, refl, sym, ap, ap₂}
 use mathlib.Core.Logic.{_≢_, _⊎_, inl, inr}
-use mathlib.Core.Bool.{Bool, true, false, _||_, cond, false≢true}
-use mathlib.Core.List.{List, [], _∷_, _++_, foldl}
+use mathlib.Core.Bool.{Bool, true, false, _||_, cond}
+use mathlib.Core.List.{List, [], _∷_, foldl}
 use lib.ListN.{length, drop, drop-of-length-le}
 use lib.Seq.{drop-cons}
 use lib.Dec.{eqb, leb}
-use borrow.Author.Tests.{eqb-true, eq-eqb}
+use borrow.Author.Tests.{eq-eqb}
 use Rattle.model.specs.Sizes.{tasks}
 use Rattle.model.specs.Lists.{_!_, keep, select, member, headOf}
 use Rattle.model.specs.Facts.{Queue}
 use Rattle.model.specs.Queue.{insert, sorted}
 use Rattle.model.specs.Kernel.{Kernel, numbered, standsIn}
-use Rattle.model.proofs.ListLaws.{or-elim, or-left, or-right}
+use Rattle.model.proofs.ListLaws.{or-left, or-right}
 use Rattle.model.proofs.NumberLaws.{numbered-at}
 use Rattle.queue.proofs.ArrivalLaws.{member-select}
 use Rattle.queue.proofs.Order.{member-insert, insert-less, insert-more}

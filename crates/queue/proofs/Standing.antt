@@ -2,23 +2,20 @@
 use Prim.Native.Nat.{ℕ, suc, _%_, _≤_, _<_}
 use native.Mathlib.Omega.{arith}
 use mathlib.Core.Path.{_≡_, _∙_, refl, sym, ap}
-use mathlib.Core.Logic.{_≢_, _⊎_, inl, inr}
-use mathlib.Core.Bool.{Bool, true, false, _&&_, cond, false≢true}
-use mathlib.Core.List.{List, [], _∷_}
+use mathlib.Core.Logic.{_≢_, inl, inr}
+use mathlib.Core.Bool.{Bool, true, false, _&&_, false≢true}
+use mathlib.Core.List.{List}
 use lib.ListN.{length}
 use lib.Dec.{eqb, leb, ltb}
 use borrow.Author.Tests.{eq-eqb, ne-eqb, le-leb, lt-leb, leb-true, lt-ltb, le-ltb}
-use Rattle.model.specs.Sizes.{tasks, mutexes, buffers, pools}
-use Rattle.model.specs.Lists.{_!_, within, select, member}
+use Rattle.model.specs.Sizes.{tasks}
+use Rattle.model.specs.Lists.{_!_, within}
 use Rattle.model.specs.Facts.{Facts, Queue, queue, ready, locking, sending, getting}
 use Rattle.model.specs.Queue.{byPriority}
 use Rattle.model.specs.Kernel.{Kernel, numbered, standsIn}
 use Rattle.model.specs.Number.{wordNumber}
 use Rattle.model.proofs.NumberLaws.{Names, NamesNone, Kind, named, unnamed, numbered-at, numbered-none}
-use Rattle.model.specs.Words.{wordCount, sizes, fields, kernel}
-use Rattle.state.proofs.WordLaws.{sized, size-of}
 use Rattle.model.specs.Field as field
-use Rattle.queue.proofs.ArrivalLaws.{member-select}
 use Rattle.queue.specs.Better.{better}
 
 -- ---- entries

@@ -8,7 +8,6 @@ use lib.Dec.{eqb}
 use native.Mathlib.Omega.{arith}
 use borrow.Author.Tests.{eq-eqb, ne-eqb}
 use Rattle.model.specs.Kernel.{fresh}
-use Rattle.state.specs.declared.Filled.{Filled}
 use Rattle.state.specs.declared.Filled.the-variants.{Done, WrongLength}
 use Rattle.model.specs.Words.{sizes, wordCount, words, fields}
 use Rattle.state.specs.Words.{Represents}

@@ -1,6 +1,6 @@
 -- `entry` meets its contract: the table has the number of each kind's case, which antt computes for all entries at once. Assumes nothing.
 use Prim.Native.Nat.{ℕ}
-use mathlib.Core.Path.{_≡_, refl}
+use mathlib.Core.Path.{refl}
 use mathlib.Core.List.{List, map}
 use lib.ListN.{getD}
 use borrow.Author.Needs.{needs}

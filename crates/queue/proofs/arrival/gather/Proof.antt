@@ -1,14 +1,10 @@
 -- `gather` meets its contract. The loop's invariant: the places seen are gathered, and j counts the others among them. Assumes nothing.
-use Prim.Native.Nat.{ℕ, _+_, _-_, _≤_}
+use Prim.Native.Nat.{_-_}
 use native.Mathlib.Omega.{arith}
-use mathlib.Core.Path.{_≡_, _∙_, sym, ap}
+use mathlib.Core.Path.{_∙_, sym}
 use lib.ListN.{length}
 use borrow.Author.Needs.{needs}
 use Rattle.model.specs.Sizes.{tasks}
-use Rattle.model.specs.Kernel.{withArrivals}
-use Rattle.model.specs.Words.{wordCount, kernel}
-use Rattle.state.specs.Words.{Represents}
-use Rattle.queue.proofs.Gather.{gathered, count}
 use Rattle.queue.proofs.ArrivingLaws.{gather-start, gather-more, gather-done, Gathering}
 use Rattle.queue.proofs.arrival.gather.Statement.{statement}
 use Rattle.queue.proofs.arrival.gather.Tie as tie

@@ -4,13 +4,13 @@ use native.Mathlib.Omega.{arith}
 use mathlib.Core.Path.{_≡_, _∙_, refl, sym, ap}
 use mathlib.Core.Bool.{cond}
 use mathlib.Core.List.{List, foldl}
-use lib.ListN.{length, drop}
+use lib.ListN.{drop}
 use borrow.Author.Needs.{needs}
 use Rattle.model.specs.Sizes.{tasks}
-use Rattle.model.specs.Lists.{_!_, select, headOf}
+use Rattle.model.specs.Lists.{_!_, select}
 use Rattle.model.specs.Facts.{queue}
 use Rattle.model.specs.Kernel.{numbered, standsIn}
-use Rattle.model.specs.Words.{wordCount, kernel}
+use Rattle.model.specs.Words.{kernel}
 use Rattle.queue.specs.Better.{better}
 use Rattle.queue.proofs.Search.{best-more, best-end, best-of-all}
 use Rattle.state.proofs.WordLaws.{arrivals-long}

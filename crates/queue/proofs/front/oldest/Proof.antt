@@ -2,14 +2,14 @@
 use Prim.Native.Nat.{ℕ, _-_, _≤_}
 use native.Mathlib.Omega.{arith}
 use mathlib.Core.Path.{_≡_, _∙_, refl, sym, ap}
-use mathlib.Core.List.{List, foldl}
-use lib.ListN.{length, drop}
+use mathlib.Core.List.{List}
+use lib.ListN.{drop}
 use borrow.Author.Needs.{needs}
 use Rattle.model.specs.Sizes.{tasks}
-use Rattle.model.specs.Lists.{_!_, select, headOf}
+use Rattle.model.specs.Lists.{select, headOf}
 use Rattle.model.specs.Facts.{queue}
-use Rattle.model.specs.Kernel.{numbered, standsIn}
-use Rattle.model.specs.Words.{wordCount, kernel}
+use Rattle.model.specs.Kernel.{standsIn}
+use Rattle.model.specs.Words.{kernel}
 use Rattle.queue.proofs.Search.{nobody-left, first-hit, first-miss}
 use Rattle.state.proofs.WordLaws.{arrivals-long}
 use Rattle.queue.proofs.front.oldest.Statement.{statement}

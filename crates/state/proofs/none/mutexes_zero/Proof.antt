@@ -1,9 +1,6 @@
 -- `mutexes_zero` meets its contract: entry 0 of each list is read. Assumes nothing.
 use native.Mathlib.Omega.{arith}
-use mathlib.Core.Path.{_≡_, _∙_}
-use mathlib.Core.List.{[]}
-use lib.ListN.{length, getD}
-use Prim.Native.Nat.{ℕ}
+use mathlib.Core.Path.{_∙_}
 use Rattle.model.specs.Sizes.{mutexes}
 use Rattle.model.specs.Valid.{mutexLists}
 use Rattle.model.specs.Words.{kernel, sizes, fields, fromFields}
