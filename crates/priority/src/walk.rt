@@ -1,5 +1,5 @@
-// The two walks, which call each other: a raised task leads to the mutex that it waits for, the mutex to its holder. Each raise leaves fewer tasks
-// that are less urgent than the walk's priority, so the walks end, in a circle of waits too.
+// The two walks, which call each other: a raised task leads to the mutex that it waits for, the mutex to its holder. The tasks not yet visited are
+// those that are less urgent than the walk's priority; each raise leaves fewer of them, so the walks end, in a circle of waits too.
 use model::number::MaybeMutex;
 use model::number::MaybeTask;
 use model::number::MutexNumber;
