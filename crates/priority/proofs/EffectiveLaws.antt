@@ -1,17 +1,11 @@
--- Laws of effective priorities: what they are worked out from, and that raising every task gives them. Assumes nothing.
-use Prim.Native.Nat.{ℕ, suc, _≤_}
-use native.Mathlib.Omega.{arith}
-use mathlib.Core.Path.{_≡_, ap, ap₂, fun-ext}
-use mathlib.Core.List.{List, _∷_, map}
-use lib.ListN.{length}
-use Rattle.model.specs.Sizes.{tasks, endless}
+-- Laws of effective priorities: what they are worked out from. Assumes nothing.
+use Prim.Native.Nat.{ℕ}
+use mathlib.Core.Path.{_≡_, ap₂, fun-ext}
+use mathlib.Core.List.{_∷_, map}
+use Rattle.model.specs.Sizes.{tasks}
 use Rattle.model.specs.Lists.{upTo, select}
 use Rattle.model.specs.Facts.{Facts}
 use Rattle.model.specs.Priority.{linked, mostUrgent, holderAwaited, ownPriority, effective, effectives}
-use Rattle.model.proofs.ListLaws.{map-agree}
-use Rattle.priority.specs.Raise.{allSoFar}
-use Rattle.priority.specs.Effective.{awaited-ends}
-use Rattle.priority.proofs.SoFarLaws.{soFar-all}
 
 -- Only the bases, the ceilings that are held and the holders that are awaited count.
 pub effectives-agree : (f g : Facts) → ((t : ℕ) → ownPriority f t ≡ ownPriority g t) → ((t : ℕ) → holderAwaited f t ≡ holderAwaited g t)
@@ -38,11 +32,3 @@ effectives-fields f g base place object attribute ceiling holder i =
       poolAttribute = f .poolAttribute;
       arrivals = f .arrivals;
     })
-
--- raising every task to its own priority, from none at all, gives the effective priorities
-pub raised-all : (f : Facts) → length (f .place) ≡ suc tasks → ((t : ℕ) → ownPriority f t ≤ endless)
-    → allSoFar (holderAwaited f) (ownPriority f) tasks ≡ effectives f
-unfolding allSoFar effectives effective
-raised-all f n fits =
-    ap (λ (r : List ℕ). 0 ∷ r)
-    (map-agree _ _ 1 tasks (λ t a b. soFar-all (holderAwaited f) (ownPriority f) (awaited-ends f n) fits t a (omega arith)))

@@ -1,6 +1,7 @@
-pub mod RaiseLaws
-pub mod SoFarLaws
 pub mod EffectiveLaws
 pub mod OwnLaws
+pub mod StepLaws
+pub mod WordLaws
 pub mod WalkLaws
-pub mod AfreshLaws
+pub mod StartLaws
+pub mod PassLaws

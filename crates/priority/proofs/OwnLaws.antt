@@ -1,23 +1,25 @@
 -- Laws of a task's own priority, mutex by mutex, and of who holds ceilings. Assumes nothing.
-use Prim.Native.Nat.{ℕ, zero, suc, _≤_, min}
+use Prim.Native.Nat.{ℕ, zero, suc, _+_, _≤_, min}
+use native.Mathlib.Nat.{add-zero, add-suc, suc-add}
+use native.Mathlib.Numerals.{one-add}
 use native.Mathlib.Omega.{arith}
 use mathlib.Core.Path.{_≡_, _∙_, refl, sym}
 use mathlib.Core.Logic.{_⊎_, inl, inr}
 use mathlib.Core.Bool.{Bool, true, false, _&&_, cond}
+use mathlib.Core.List.{[], map}
 use lib.Dec.{eqb}
 use borrow.Author.Tests.{eq-eqb, ne-eqb}
 use Rattle.model.specs.Sizes.{tasks, mutexes}
-use Rattle.model.specs.Lists.{_!_}
+use Rattle.model.specs.Lists.{_!_, countFrom, select, keep}
 use Rattle.model.specs.Facts.{ceilinged}
-use Rattle.model.specs.Priority.{ownPriority}
+use Rattle.model.specs.Priority.{mostUrgent, ownPriority}
 use Rattle.model.specs.Kernel.{Kernel, facts}
 use Rattle.model.specs.Number.{wordNumber, maybeTask}
 use Rattle.model.specs.declared.number.MaybeTask as mTask
 use Rattle.model.proofs.ListLaws.{and-true, and-false}
 use Rattle.model.proofs.NumberLaws.{Names, NamesNone, numbered-at}
-use Rattle.priority.specs.Least.{least, least-first}
+use Rattle.priority.specs.Least.{least}
 use Rattle.priority.specs.Own.{ownOf, baseOf, holdsCeiling, withCeilingOf, ceilingHolder}
-use Rattle.priority.proofs.SoFarLaws.{least-suc}
 
 -- a number in the range names something
 pub inside : {n last : ℕ} {A : Type 0} → 1 ≤ n → n ≤ last → NamesNone last n → A
@@ -25,6 +27,28 @@ inside a b (inl e) = absurd (omega arith)
 inside a b (inr e) = absurd (omega arith)
 
 -- ---- mutex by mutex
+
+-- one number more among those that the most urgent is taken of
+module _ (f : ℕ → ℕ) (p : ℕ → Bool) where
+  abbrev among : ℕ → ℕ → ℕ → ℕ
+  among a j n = mostUrgent a (map f (select p (countFrom j n)))
+
+  among-suc : (a j n : ℕ) → among a j (suc n) ≡ cond (p (j + n)) (min (among a j n) (f (j + n))) (among a j n)
+  among-suc a j zero = rw add-zero (go (p j))
+    where
+      go : (b : Bool) → mostUrgent a (map f (keep b j [])) ≡ cond b (min a (f j)) a
+      go true = refl
+      go false = refl
+  among-suc a j (suc n) = rw (add-suc, ← suc-add) (go (p j) (λ b. among-suc b (suc j) n))
+    where
+      go : (c : Bool) → ((b : ℕ) → among b (suc j) (suc n) ≡ cond (p (suc j + n)) (min (among b (suc j) n) (f (suc j + n))) (among b (suc j) n))
+          → mostUrgent a (map f (keep c j (select p (countFrom (suc j) (suc n)))))
+          ≡ cond (p (suc j + n)) (min (mostUrgent a (map f (keep c j (select p (countFrom (suc j) n))))) (f (suc j + n))) (mostUrgent a (map f (keep c j (select p (countFrom (suc j) n)))))
+      go true rest = rest (min a (f j))
+      go false rest = rest a
+
+  least-suc : (a n : ℕ) → least a f p (suc n) ≡ cond (p (suc n)) (min (least a f p n) (f (suc n))) (least a f p n)
+  least-suc a n = rw one-add at (among-suc a 1 n)
 
 -- the most urgent of the base and the ceilings held of the first n mutexes
 unfoldable pub ownSoFar : Kernel → ℕ → ℕ → ℕ
@@ -50,21 +74,11 @@ module _ (k : Kernel) (t : ℕ) where
 -- ---- the tasks that hold ceilings
 
 -- what counts as a task's own priority once the holders of the first n mutexes' ceilings have been asked for theirs
-abbrev pub ownAsked : Kernel → ℕ → ℕ → ℕ
+unfoldable pub ownAsked : Kernel → ℕ → ℕ → ℕ
 ownAsked k zero t = baseOf k t
 ownAsked k (suc n) t = cond (eqb (ceilingHolder k (suc n)) t) (ownOf k t) (ownAsked k n t)
 
 module _ (k : Kernel) (t : ℕ) where
-  -- it is no more urgent than the own priority
-  pub asked-below : (n : ℕ) → ownOf k t ≤ ownAsked k n t
-  unfolding ownPriority
-  asked-below zero = least-first (λ m. facts k .ceiling ! m) (holdsCeiling (facts k) t) (facts k .base ! t) mutexes
-  asked-below (suc n) = go (eqb (ceilingHolder k (suc n)) t) (asked-below n)
-    where
-      go : (b : Bool) → ownOf k t ≤ ownAsked k n t → ownOf k t ≤ cond b (ownOf k t) (ownAsked k n t)
-      go true h = omega arith
-      go false h = h
-
   holder-holds : (m : ℕ) → 1 ≤ t → eqb (ceilingHolder k m) t ≡ holdsCeiling (facts k) t m
   unfolding ceilingHolder
   holder-holds m h = go (eqb (facts k .mutexAttribute ! m) ceilinged)
@@ -75,7 +89,7 @@ module _ (k : Kernel) (t : ℕ) where
 
   -- asked for already, or no ceiling is held so far
   asked-or : 1 ≤ t → (n : ℕ) → (ownAsked k n t ≡ ownOf k t) ⊎ (ownAsked k n t ≡ ownSoFar k t n)
-  unfolding ownSoFar withCeilingOf
+  unfolding ownAsked ownSoFar withCeilingOf
   asked-or h zero = inr refl
   asked-or h (suc n) =
       rw (holder-holds (suc n) h, ← own-step k t n) (go (holdsCeiling (facts k) t (suc n)) (asked-or h n))
@@ -84,6 +98,15 @@ module _ (k : Kernel) (t : ℕ) where
           → (cond b (ownOf k t) (ownAsked k n t) ≡ ownOf k t) ⊎ (cond b (ownOf k t) (ownAsked k n t) ≡ cond b (min (ownSoFar k t n) (facts k .ceiling ! suc n)) (ownSoFar k t n))
       go true e = inl refl
       go false e = e
+
+  -- one holder more has been asked: its own priority counts
+  pub asked-holder : (n : ℕ) → ceilingHolder k (suc n) ≡ t → ownAsked k (suc n) t ≡ ownOf k t
+  unfolding ownAsked
+  asked-holder n e = rw (eq-eqb _ _ e)
+
+  pub asked-other : (n : ℕ) → (ceilingHolder k (suc n) ≡ t → ⊥) → ownAsked k (suc n) t ≡ ownAsked k n t
+  unfolding ownAsked
+  asked-other n e = rw (ne-eqb _ _ e)
 
   -- when all have been asked, it is the own priority
   pub asked-all : 1 ≤ t → ownAsked k mutexes t ≡ ownOf k t

@@ -1,33 +1,29 @@
 -- The parts of all current priorities worked out afresh. Assumes nothing.
-use Prim.Native.Nat.{ℕ, _≤_}
-use mathlib.Core.Path.{_≡_}
-use mathlib.Core.List.{List, _∷_}
-use lib.ListN.{length, replicate}
-use Rattle.model.specs.Sizes.{tasks, mutexes, endless}
-use Rattle.model.specs.Kernel.{Kernel, withCurrents}
-use Rattle.state.specs.Words.{wordCount, kernel}
-use Rattle.priority.specs.Raise.{Falls, allSoFar}
+use Prim.Native.Nat.{ℕ}
+use mathlib.Core.Bool.{cond}
+use mathlib.Core.List.{List, _∷_, map}
+use Rattle.model.specs.Sizes.{tasks}
+use Rattle.model.specs.Lists.{_!_, upTo, within}
+use Rattle.model.specs.Kernel.{Kernel, withCurrent, withCurrents}
 use Rattle.priority.specs.Own.{ownOf, baseOf, ceilingHolder}
-use Rattle.priority.specs.Walk.{awaited, raisedIfTask}
+use Rattle.priority.specs.Walk.{awaited, raisedKernel}
 
--- no task has a priority yet
-abbrev pub noneYet : Kernel → Kernel
-noneYet k = withCurrents k (0 ∷ replicate tasks endless)
+-- a list by number, from what each task has
+unfoldable pub byTask : (ℕ → ℕ) → List ℕ
+byTask f = 0 ∷ map f (upTo tasks)
 
--- the first n tasks have been raised from none to their base priorities
-unfoldable pub raisedSoFar : Kernel → ℕ → Kernel
-raisedSoFar k n = withCurrents k (allSoFar (awaited k) (baseOf k) n)
+-- every current priority is the task's base priority
+unfoldable pub atBases : Kernel → Kernel
+atBases k = withCurrents k (byTask (baseOf k))
 
-abbrev pub basesRaised : Kernel → Kernel
-basesRaised k = raisedSoFar k tasks
+-- or its own
+unfoldable pub atOwn : Kernel → Kernel
+atOwn k = withCurrents k (byTask (ownOf k))
 
--- the holder of one mutex is raised to its own priority, if the mutex's ceiling counts
-abbrev pub raisedHolder : Kernel → ℕ → Kernel
-raisedHolder k m = let h = ceilingHolder k m in raisedIfTask k h (ownOf k h)
+-- that of the holder of one mutex is its own, if the mutex's ceiling counts
+unfoldable pub holderAtOwn : Kernel → ℕ → Kernel
+holderAtOwn k m = let h = ceilingHolder k m in cond (within 1 tasks h) (withCurrent k h (ownOf k h)) k
 
--- what it asks: the number is a mutex's, and no step leads to a less urgent task, whoever is raised
-pub record MayRaiseHolder (w : List ℕ) (m : ℕ) : Type 0 where
-  pub size : length w ≡ wordCount
-  pub low : 1 ≤ m
-  pub high : m ≤ mutexes
-  pub falls : (v p : ℕ) → Falls (awaited (kernel w)) (kernel w .tasks .current) v p
+-- a task has passed its current priority on
+unfoldable pub passedOn : Kernel → ℕ → Kernel
+passedOn k t = raisedKernel k (awaited k t) (k .tasks .current ! t)

@@ -1,6 +1,5 @@
 pub mod Linked
 pub mod Least
-pub mod Raise
 pub mod Effective
 pub mod Own
 pub mod Walk

@@ -6,34 +6,41 @@ use model::number::MutexNumber;
 use model::number::TaskNumber;
 use state::mutex;
 use state::task;
-ghost use Rattle.state.specs.Words.{kernel, Represents};
-ghost use Rattle.priority.specs.Walk.{MayRaise, raisedKernel, MayRaiseFrom, raisedFromMutex};
+ghost use mathlib.Core.Path.{_≡_};
+ghost use Prim.Native.Nat.{_≤_};
+ghost use lib.ListN.{length};
+ghost use Rattle.model.specs.Sizes.{tasks, mutexes};
+ghost use Rattle.model.specs.Number.{wordNumber, maybeMutex};
+ghost use Rattle.model.specs.Kernel.{facts};
+ghost use Rattle.state.specs.Words.{wordCount, kernel, Represents};
+ghost use Rattle.priority.specs.Walk.{mutexAwaited, passesTo, raisedKernel};
 
 // A mutex's attribute: its holder inherits the priorities of those that wait for it.
 const INHERITS: u32 = 2;
 
-// The task is raised to p, and so is every task that it leads to. Where it is as urgent already, so are those.
-pub(crate) fn raise_task(state: &mut [u32], v: TaskNumber, p: u32)
-    requires { ⌜ MayRaise (now state) (v .0) p ⌝ }
+// The task is raised to p, and so is each that it leads to in turn, until one is as urgent already. Entry 0 of a field stands for no
+// task, whatever it holds, so the number is not 0.
+fn raise_task(state: &mut [u32], v: TaskNumber, p: u32)
+    requires { ⌜ length (now state) ≡ wordCount ⌝ }
+    requires { ⌜ 1 ≤ v .0 ⌝ }
+    requires { ⌜ v .0 ≤ tasks ⌝ }
     ensures { λ _. ⌜ Represents (now (state .exit)) (raisedKernel (kernel (now (state .entry))) (v .0) p) ⌝ }
 {
     if task::current(state, v) <= p {
         return;
     }
     task::set_current(state, v, p);
-    if task::place(state, v) != task::LOCKING {
-        return;
-    }
-    let MaybeMutex::Mutex(m) = MutexNumber::from_word(task::object(state, v)) else {
+    let MaybeMutex::Mutex(m) = awaited_mutex(state, v) else {
         return;
     };
     raise_mutex(state, m, p);
 }
 
-// The mutex's holder is raised to p, if the mutex passes priorities on to it, and so is every task that the holder leads to.
-fn raise_mutex(state: &mut [u32], m: MutexNumber, p: u32)
-    requires { ⌜ MayRaiseFrom (now state) (m .0) p ⌝ }
-    ensures { λ _. ⌜ Represents (now (state .exit)) (raisedFromMutex (kernel (now (state .entry))) (m .0) p) ⌝ }
+// The same from the mutex's holder, if the mutex passes priorities on to it.
+pub(crate) fn raise_mutex(state: &mut [u32], m: MutexNumber, p: u32)
+    requires { ⌜ length (now state) ≡ wordCount ⌝ }
+    requires { ⌜ 1 ≤ m .0 ⌝ }
+    ensures { λ _. ⌜ Represents (now (state .exit)) (raisedKernel (kernel (now (state .entry))) (passesTo (facts (kernel (now (state .entry)))) (m .0)) p) ⌝ }
 {
     if mutex::attribute(state, m) != INHERITS {
         return;
@@ -42,4 +49,17 @@ fn raise_mutex(state: &mut [u32], m: MutexNumber, p: u32)
         return;
     };
     raise_task(state, v, p);
+}
+
+// The mutex that the task waits for, if any.
+pub(crate) fn awaited_mutex(state: &[u32], t: TaskNumber) -> MaybeMutex
+    requires { ⌜ length (now state) ≡ wordCount ⌝ }
+    requires { ⌜ 1 ≤ t .0 ⌝ }
+    ensures { λ r. ⌜ r ≡ maybeMutex (wordNumber (mutexAwaited (facts (kernel (now (state .entry)))) (t .0)) mutexes) ⌝ }
+{
+    if task::place(state, t) == task::LOCKING {
+        MutexNumber::from_word(task::object(state, t))
+    } else {
+        MaybeMutex::Nothing
+    }
 }
