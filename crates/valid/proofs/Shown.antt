@@ -25,7 +25,7 @@ use Rattle.state.specs.Words.{wordCount, kernel}
 use Rattle.message.specs.NextMessage.{messageAt, located, hasBuffer, nextLocation}
 use Rattle.message.specs.declared.next.Location.{Location}
 use Rattle.message.specs.declared.next.Location.the-variants.{Stored, Sent, Nowhere}
-use Rattle.valid.specs.Tests.{and-agrees, eq-agrees}
+use Rattle.valid.specs.Tests.{itself, and-agrees, eq-agrees}
 use Rattle.valid.specs.Lent.{lent, isValid}
 use Rattle.valid.specs.Shown.{shownLocation, shownMessage}
 
@@ -36,7 +36,7 @@ module _ (w s o : List ℕ) where
   pub are-words : (v : Bool) → v ≡ isValid w s o → not v ≡ false → length w ≡ wordCount
   unfolding isValid
   are-words v told ok =
-      and-agrees (eqb (length w) wordCount) (valid (lent w s o)) (eq-agrees (length w) wordCount) ((λ e. e), (λ e. e)) .0 (sym told ∙ not-false v ok) .0
+      and-agrees (eqb (length w) wordCount) (valid (lent w s o)) (eq-agrees (length w) wordCount) (itself (valid (lent w s o))) .0 (sym told ∙ not-false v ok) .0
 
   module _ (n : ℤ) (v : Bool) (told : v ≡ isValid w s o) where
     pub not-valid : not v ≡ true → Nowhere ≡ shownLocation w s o n

@@ -6,10 +6,8 @@ use Rattle.valid.proofs.pool.block_flag.Tie as tie
 
 returns : tie.Need-returns
 unfolding blockFlag
-returns c =
-    rw (c .within .ensures, c .before .count .ensures, c .before .before .taken .ensures)
+returns c = rw (c .within .ensures, c .before .count .ensures, c .before .before .taken .ensures)
 
 pub block-flag-spec : {M : Type 1} → statement M
 block-flag-spec =
-    tie.close
-    (tie.spec (λ c κs. search needs) (λ c κs. search needs) (λ c κs. search needs) returns)
+    tie.close (tie.spec (λ c κs. search needs) (λ c κs. search needs) (λ c κs. search needs) returns)

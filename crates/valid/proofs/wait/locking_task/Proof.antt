@@ -6,9 +6,7 @@ use Rattle.valid.proofs.wait.locking_task.Tie as tie
 
 returns : tie.Need-returns
 unfolding lockingTask
-returns c =
-    let r = c .before .before .before in
-    rw (c .word .ensures, c .before .holder .ensures, c .before .before .object .ensures, r .place .ensures)
+returns c = cc
 
 pub locking-task-spec : {M : Type 1} → statement M
 locking-task-spec =

@@ -6,9 +6,7 @@ use Rattle.valid.proofs.waiter.receiving_task.Tie as tie
 
 returns : tie.Need-returns
 unfolding receivingTask
-returns c =
-    let r = c .before .before .before in
-    rw (c .no-senders .ensures, c .before .used .ensures, c .before .before .object .ensures, r .place .ensures)
+returns c = cc
 
 pub receiving-task-spec : {M : Type 1} → statement M
 receiving-task-spec =
