@@ -19,8 +19,8 @@ ghost use Rattle.state.specs.Words.{Represents};
 ghost use Rattle.priority.specs.Own.{baseOf};
 ghost use Rattle.priority.specs.Afresh.{atBases, atOwn, holderAtOwn, passedOn};
 
-// Every current priority becomes the effective one, whatever the words hold: it starts from the task's own, and each task passes its own
-// on.
+// Every current priority becomes the effective one, whatever the words hold: each starts from the task's own, and then each task passes its
+// current priority on.
 pub fn recompute(state: &mut [u32])
     requires { ⌜ length (now state) ≡ wordCount ⌝ }
     ensures { λ _. ⌜ Represents (now (state .exit)) (recompute (kernel (now (state .entry)))) ⌝ }

@@ -4,21 +4,22 @@ use native.Mathlib.Omega.{arith}
 use mathlib.Core.Path.{_≡_, _∙_, refl, sym}
 use mathlib.Core.Bool.{Bool, true, false, _&&_, _||_, not}
 use mathlib.Core.List.{List, [], _∷_}
-use lib.ListN.{length}
+use lib.ListN.{length, getD}
 use lib.Dec.{eqb}
 use borrow.Author.Tests.{eqb-true, eq-eqb, le-leb, lt-leb, not-true, not-false}
 use Rattle.model.specs.Sizes.{tasks, mutexes, buffers, pools, blocks, storeBytes, outboxBytes}
-use Rattle.model.specs.Lists.{_!_, all, countFrom, within}
+use Rattle.model.specs.Lists.{_!_, all, countFrom, upTo, within}
 use Rattle.model.specs.Kernel.{Kernel, slot}
-use Rattle.model.specs.Valid.{TaskLists, MutexLists, BufferLists, PoolLists, lengths, blockFlag, valid}
-use Rattle.model.proofs.FlagLaws.{joinedFlags}
+use Rattle.model.specs.World.{Lent}
+use Rattle.model.specs.Valid.{TaskLists, MutexLists, BufferLists, PoolLists, lengths, taskRange, bufferRange, blockFlag, argument, waitFields, ceiling, lockingTask, gettingTask, receivingTask, firstSender, valid}
+use Rattle.model.proofs.FlagLaws.{joinedFlags, passes, asked-together}
 use Rattle.model.specs.Words.{wordCount, sizes, fields, kernel}
 use Rattle.state.proofs.WordLaws.{sized, size-of}
 use Rattle.model.specs.Field as field
 use Rattle.valid.specs.Tests.{and3, and4, eq-agrees}
 use Rattle.valid.specs.Agree.{task-lists, mutex-lists, buffer-lists, pool-lists}
 use Rattle.model.specs.Lent.{lent, isValid}
-use Rattle.valid.specs.Check.{rightLengths, noneZero, clauses, kind-by-kind}
+use Rattle.valid.specs.Check.{taskTests, bufferTests, blockFlags, rightLengths, noneZero, clauses, kind-by-kind}
 
 -- ---- the flags of pool 0, which is none and has no blocks
 
@@ -38,8 +39,26 @@ module _ (k : Kernel) (h : PoolLists (k .pools)) where
       go false true zero = refl
       go false true (suc n) = rw (le-leb 1 (suc n) (omega arith), lt-leb (suc n) 0 (omega arith))
 
-  pub none-flags : all (blockFlag k 0) (countFrom 0 (suc blocks)) ≡ all (λ b. eqb (k .pools .taken ! slot 0 b) 0) (countFrom 0 (suc blocks))
-  none-flags = all-same (blockFlag k 0) (λ b. eqb (k .pools .taken ! slot 0 b) 0) none-flag (countFrom 0 (suc blocks))
+  pub flag-tests : {first others : Bool} → first ≡ all (λ b. eqb (k .pools .taken ! slot 0 b) 0) (countFrom 0 (suc blocks))
+      → others ≡ all (λ p. all (blockFlag k p) (countFrom 0 (suc blocks))) (upTo pools) → first && others ≡ blockFlags k
+  flag-tests e f = rw (e, f, all-same (blockFlag k 0) (λ b. eqb (k .pools .taken ! slot 0 b) 0) none-flag (countFrom 0 (suc blocks)))
+
+-- ---- flags side by side are those of the lists
+
+pub task-tests : (k : Kernel) (t : ℕ) {a b c d e f g : Bool} → a ≡ taskRange k t → b ≡ argument k t → c ≡ waitFields k t → d ≡ all (ceiling k t) (upTo mutexes)
+    → e ≡ lockingTask k t → f ≡ gettingTask k t → g ≡ receivingTask k t → a && b && c && d && e && f && g ≡ passes (taskTests k) t
+task-tests k t p q r s u v w = rw (p, q, r, s, u, v, w) (asked-together (taskTests k) t)
+
+pub buffer-tests : (k : Kernel) (b : ℕ) {p q : Bool} → p ≡ bufferRange k b → q ≡ firstSender k b → p && q ≡ passes (bufferTests k) b
+buffer-tests k b e f = rw (e, f) (asked-together (bufferTests k) b)
+
+-- all clauses, each at its place in the check's order
+abbrev clause : Lent → ℕ → Bool
+clause x i = getD (clauses x) i true
+
+pub clause-tests : (x : Lent) {a b c d e f g h i j : Bool} → a ≡ clause x 0 → b ≡ clause x 1 → c ≡ clause x 2 → d ≡ clause x 3 → e ≡ clause x 4
+    → f ≡ clause x 5 → g ≡ clause x 6 → h ≡ clause x 7 → i ≡ clause x 8 → j ≡ clause x 9 → a && b && c && d && e && f && g && h && i && j ≡ joinedFlags (clauses x)
+clause-tests x p q r s t u v w y z = rw (p, q, r, s, t, u, v, w, y, z)
 
 -- ---- whatever is lent
 

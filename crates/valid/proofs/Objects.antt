@@ -1,4 +1,5 @@
--- Laws of the tests of one object: entries by a word that names an object or nothing, and who may hold a mutex. Assumes nothing.
+-- Laws of the tests of one object: entries by a word that names an object or nothing, who may hold a mutex, and what is waited for.
+-- Assumes nothing.
 use Prim.Native.Nat.{ℕ, suc}
 use native.Mathlib.Omega.{arith}
 use mathlib.Core.Path.{_≡_, _∙_, sym, ap}
@@ -10,8 +11,10 @@ use lib.Dec.{eqb, leb}
 use borrow.Author.Tests.{eq-eqb, ne-eqb}
 use Rattle.model.specs.Sizes.{tasks}
 use Rattle.model.specs.Lists.{_!_}
-use Rattle.model.specs.Facts.{ready}
+use Rattle.model.specs.Facts.{ready, locking, getting}
 use Rattle.model.specs.Number.{wordNumber, maybeTask}
+use Rattle.model.specs.Kernel.{Kernel}
+use Rattle.model.specs.Valid.{awaitable}
 use Rattle.model.specs.declared.number.MaybeTask.{MaybeTask}
 use Rattle.model.proofs.NumberLaws.{NamesNone, Kind, taskKind, named, unnamed}
 use Rattle.model.specs.Words.{wordCount, sizes, fields, kernel}
@@ -48,3 +51,19 @@ module _ (places : List ℕ) (n : ℕ) where
 
     pub hold-task : (t p : ℕ) → found ≡ taskKind .some t → p ≡ places ! t → leb ready p ≡ eqb n 0 || leb ready (places ! n)
     hold-task t p some e = rw (ne-eqb n 0 d, entry-there taskKind places n made t p some e)
+
+-- ---- what a task waits for, by its place
+
+module _ (k : Kernel) (place object r : ℕ) where
+  pub awaits-mutex : place ≡ locking → r ≡ k .mutexes .exists ! object → r ≡ awaitable k place ! object
+  unfolding awaitable
+  awaits-mutex e q = rw (eq-eqb place locking e) q
+
+  module _ (d : place ≡ locking → ⊥) where
+    pub awaits-block : place ≡ getting → r ≡ k .pools .exists ! object → r ≡ awaitable k place ! object
+    unfolding awaitable
+    awaits-block e q = rw (ne-eqb place locking d, eq-eqb place getting e) q
+
+    pub awaits-buffer : (place ≡ getting → ⊥) → r ≡ k .buffers .exists ! object → r ≡ awaitable k place ! object
+    unfolding awaitable
+    awaits-buffer f q = rw (ne-eqb place locking d, ne-eqb place getting f) q

@@ -22,12 +22,12 @@ use Rattle.model.specs.declared.number.MaybeTask.{MaybeTask}
 use Rattle.model.specs.declared.number.MaybeBuffer.{MaybeBuffer}
 use Rattle.model.proofs.NumberLaws.{field-inside, field-outside, taskKind, bufferKind, is-some, is-none}
 use Rattle.model.specs.Words.{wordCount, kernel}
-use Rattle.message.specs.NextMessage.{located, hasBuffer, nextLocation}
+use Rattle.message.specs.NextMessage.{messageAt, located, hasBuffer, nextLocation}
 use Rattle.message.specs.declared.next.Location.{Location}
 use Rattle.message.specs.declared.next.Location.the-variants.{Stored, Sent, Nowhere}
-use Rattle.valid.specs.Tests.{and-agrees, eq-agrees}
+use Rattle.valid.specs.Tests.{itself, and-agrees, eq-agrees}
 use Rattle.model.specs.Lent.{lent, isValid}
-use Rattle.valid.specs.Shown.{shownLocation}
+use Rattle.valid.specs.Shown.{shownLocation, shownMessage}
 
 -- ---- what is lent is checked, then the number, then the buffer
 
@@ -36,7 +36,7 @@ module _ (w s o : List ℕ) where
   pub are-words : (v : Bool) → v ≡ isValid w s o → not v ≡ false → length w ≡ wordCount
   unfolding isValid
   are-words v told ok =
-      and-agrees (eqb (length w) wordCount) (valid (lent w s o)) (eq-agrees (length w) wordCount) ((λ e. e), (λ e. e)) .0 (sym told ∙ not-false v ok) .0
+      and-agrees (eqb (length w) wordCount) (valid (lent w s o)) (eq-agrees (length w) wordCount) (itself (valid (lent w s o))) .0 (sym told ∙ not-false v ok) .0
 
   module _ (n : ℤ) (v : Bool) (told : v ≡ isValid w s o) where
     pub not-valid : not v ≡ true → Nowhere ≡ shownLocation w s o n
@@ -99,3 +99,10 @@ module _ (k : Kernel) (b : BufferNumber) (used : ℕ) (u : used ≡ k .buffers .
     is-sent t m some a =
         let is = is-some taskKind front some in
         rw (← u, eq-eqb _ _ empty, ← word, ne-eqb _ _ (is .1), a, ← is .0)
+
+-- ---- what is shown
+
+pub shown-there : (w s o : List ℕ) (n m : ℤ) (at : Location) (message : List ℕ) → m ≡ n → at ≡ shownLocation w s o m → message ≡ messageAt at s o
+    → message ≡ shownMessage w s o n
+unfolding shownMessage
+shown-there w s o n m at message same e f = f ∙ rw (e, same)

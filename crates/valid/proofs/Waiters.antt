@@ -3,6 +3,7 @@ use Prim.Native.Nat.{ℕ, suc, _+_, _-_, _≤_, _<_}
 use native.Mathlib.Omega.{arith}
 use mathlib.Core.Path.{_≡_, _∙_, refl, sym, ap}
 use mathlib.Core.Bool.{Bool, true, false, not}
+use lib.ListN.{length}
 use lib.Dec.{eqb, leb}
 use borrow.Author.Tests.{eq-eqb, ne-eqb}
 use Rattle.model.specs.Sizes.{pools}
@@ -21,7 +22,6 @@ use Rattle.model.proofs.NumberLaws.{taskKind, poolKind, is-some, is-none, named
 use Rattle.model.proofs.Loops.{Left, left-more, left-stop, left-done}
 use Rattle.valid.specs.Tests.{none-found}
 use Rattle.valid.proofs.Objects.{entry-none}
-use lib.ListN.{length}
 
 -- ---- a search for a free block: the first i have been seen, and the others decide
 

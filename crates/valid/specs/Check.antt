@@ -11,9 +11,9 @@ use Rattle.model.specs.Kernel.{Kernel}
 use Rattle.model.specs.World.{Lent}
 use Rattle.model.specs.Refusal.{poolSum}
 use Rattle.model.specs.Valid.{lists, taskLists, mutexLists, bufferLists, poolLists, lengths, taskRange, mutexRange, bufferRange, poolRange, blockFlag, argument, waitFields, arrivals, currentPriorities, ceiling, lockingTask, gettingTask, receivingTask, firstSender, regionLayout, outboxPart, valid}
-use Rattle.valid.specs.Agree.{asDefined}
 use Rattle.model.proofs.FlagLaws.{every, joinedFlags, joined-every, passes, test-by-test, every-append, same-flags}
-use Rattle.model.specs.Words.{wordCount, kernel}
+use Rattle.model.specs.Words.{wordCount}
+use Rattle.valid.specs.Agree.{asDefined}
 
 -- what is asked of every task, and of every buffer
 abbrev pub taskTests : Kernel → List (ℕ → Bool)
@@ -55,7 +55,7 @@ module _ (x : Lent) where
   abbrev k : Kernel
   k = x .kernel
 
-  -- the same, kind by kind
+  -- the definition's clauses, kind by kind
   abbrev ofLists : List Bool
   ofLists = lists tasks (taskLists k) ∷ lists mutexes (mutexLists k) ∷ lists buffers (bufferLists k) ∷ lists pools (poolLists k) ∷ []
 

@@ -4,10 +4,8 @@ use Rattle.valid.proofs.arrival.stands_once.Statement.{statement}
 use Rattle.valid.proofs.arrival.stands_once.Tie as tie
 
 returns : tie.Need-returns
-returns c =
-    rw (c .times .ensures, c .before .word .ensures, c .before .before .place .ensures)
+returns c = rw (c .times .ensures, c .before .word .ensures, c .before .before .place .ensures)
 
 pub stands-once-spec : {M : Type 1} → statement M
 stands-once-spec =
-    tie.close
-    (tie.spec (λ c κs. search needs) (λ c κs. search needs) (λ c κs. search needs) returns)
+    tie.close (tie.spec (λ c κs. search needs) (λ c κs. search needs) (λ c κs. search needs) returns)

@@ -4,9 +4,10 @@ use Rattle.model.specs.Valid.{blockFlag}
 use Rattle.valid.proofs.pool.block_flag.Statement.{statement}
 use Rattle.valid.proofs.pool.block_flag.Tie as tie
 
-pub block-flag-spec : {M : Type 1} → statement M
+returns : tie.Need-returns
 unfolding blockFlag
+returns c = rw (c .within .ensures, c .before .count .ensures, c .before .before .taken .ensures)
+
+pub block-flag-spec : {M : Type 1} → statement M
 block-flag-spec =
-    tie.close
-    (tie.spec (λ c κs. search needs) (λ c κs. search needs) (λ c κs. search needs)
-    (λ c. rw (c .within .ensures, c .before .count .ensures, c .before .before .taken .ensures)))
+    tie.close (tie.spec (λ c κs. search needs) (λ c κs. search needs) (λ c κs. search needs) returns)

@@ -4,9 +4,11 @@ use Rattle.model.specs.Valid.{lockingTask}
 use Rattle.valid.proofs.wait.locking_task.Statement.{statement}
 use Rattle.valid.proofs.wait.locking_task.Tie as tie
 
-pub locking-task-spec : {M : Type 1} → statement M
+returns : tie.Need-returns
 unfolding lockingTask
+returns c = cc
+
+pub locking-task-spec : {M : Type 1} → statement M
 locking-task-spec =
     tie.close
-    (tie.spec (λ c κs. search needs) (λ c κs. search needs) (λ c κs. search needs) (λ c κs. search needs)
-    (λ c. let r = c .before .before .before in rw (c .word .ensures, c .before .holder .ensures, c .before .before .object .ensures, r .place .ensures)))
+    (tie.spec (λ c κs. search needs) (λ c κs. search needs) (λ c κs. search needs) (λ c κs. search needs) returns)

@@ -4,9 +4,10 @@ use Rattle.model.specs.Valid.{gettingTask}
 use Rattle.valid.proofs.waiter.getting_task.Statement.{statement}
 use Rattle.valid.proofs.waiter.getting_task.Tie as tie
 
-pub getting-task-spec : {M : Type 1} → statement M
+returns : tie.Need-returns
 unfolding gettingTask
+returns c = rw (c .none-free .ensures, c .before .object .ensures, c .before .before .place .ensures)
+
+pub getting-task-spec : {M : Type 1} → statement M
 getting-task-spec =
-    tie.close
-    (tie.spec (λ c κs. search needs) (λ c κs. search needs) (λ c κs. search needs)
-    (λ c. rw (c .none-free .ensures, c .before .object .ensures, c .before .before .place .ensures)))
+    tie.close (tie.spec (λ c κs. search needs) (λ c κs. search needs) (λ c κs. search needs) returns)

@@ -4,9 +4,11 @@ use Rattle.model.specs.Valid.{receivingTask}
 use Rattle.valid.proofs.waiter.receiving_task.Statement.{statement}
 use Rattle.valid.proofs.waiter.receiving_task.Tie as tie
 
-pub receiving-task-spec : {M : Type 1} → statement M
+returns : tie.Need-returns
 unfolding receivingTask
+returns c = cc
+
+pub receiving-task-spec : {M : Type 1} → statement M
 receiving-task-spec =
     tie.close
-    (tie.spec (λ c κs. search needs) (λ c κs. search needs) (λ c κs. search needs) (λ c κs. search needs)
-    (λ c. let r = c .before .before .before in rw (c .no-senders .ensures, c .before .used .ensures, c .before .before .object .ensures, r .place .ensures)))
+    (tie.spec (λ c κs. search needs) (λ c κs. search needs) (λ c κs. search needs) (λ c κs. search needs) returns)
