@@ -9,7 +9,7 @@ use mathlib.Core.List.{List, [], _∷_, _++_, map}
 use lib.ListN.{length, getD, take}
 use lib.Dec.{eqb}
 use borrow.Author.Tests.{eqb-true, eq-eqb}
-use Rattle.model.specs.Lists.{countFrom, member, keep, without, zeros}
+use Rattle.model.specs.Lists.{countFrom, member, keep, select, without, zeros}
 
 -- ---- tests
 
@@ -79,6 +79,15 @@ pub member-middle : (u : ℕ) (xs ys : List ℕ) → member u (xs ++ u ∷ ys) �
 member-middle u [] ys = or-left (eqb u u) (member u ys) (eq-eqb u u refl)
 member-middle u (x ∷ xs) ys = or-right (eqb u x) (member u (xs ++ u ∷ ys)) (member-middle u xs ys)
 
+-- no more are chosen than there are
+pub length-select : (p : ℕ → Bool) (xs : List ℕ) → length (select p xs) ≤ length xs
+length-select p [] = omega arith
+length-select p (x ∷ xs) = go (p x) (length-select p xs)
+  where
+    go : (b : Bool) → length (select p xs) ≤ length xs → length (keep b x (select p xs)) ≤ suc (length xs)
+    go true h = omega arith
+    go false h = omega arith
+
 -- a list without one of its numbers: the others stay, and it is shorter
 pub without-keeps : (a z : ℕ) (xs : List ℕ) → z ≢ a → member z xs ≡ true → member z (without a xs) ≡ true
 without-keeps a z [] h e = e
@@ -91,21 +100,13 @@ without-keeps a z (y ∷ ys) h e = go (eqb a y) refl (or-elim (eqb z y) (member 
     go false f (inl g) rest = or-left (eqb z y) _ g
     go false f (inr g) rest = or-right (eqb z y) _ (rest g)
 
-without-le : (a : ℕ) (xs : List ℕ) → length (without a xs) ≤ length xs
-without-le a [] = omega arith
-without-le a (y ∷ ys) = go (eqb a y) (without-le a ys)
-  where
-    go : (b : Bool) → length (without a ys) ≤ length ys → length (keep (not b) y (without a ys)) ≤ suc (length ys)
-    go true h = omega arith
-    go false h = omega arith
-
 pub without-shorter : (a : ℕ) (xs : List ℕ) → member a xs ≡ true → length (without a xs) < length xs
 without-shorter a [] e = absurd (false≢true e)
 without-shorter a (y ∷ ys) e = go (eqb a y) refl (or-elim (eqb a y) (member a ys) e) (without-shorter a ys)
   where
     go : (b : Bool) → eqb a y ≡ b → (eqb a y ≡ true) ⊎ (member a ys ≡ true) → (member a ys ≡ true → length (without a ys) < length ys)
         → length (keep (not b) y (without a ys)) < suc (length ys)
-    go true f g rest = let h = without-le a ys in omega arith
+    go true f g rest = let h = length-select (λ y. not (eqb a y)) ys in omega arith
     go false f (inl g) rest = absurd (false≢true (sym f ∙ g))
     go false f (inr g) rest = let h = rest g in omega arith
 

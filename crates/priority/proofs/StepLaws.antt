@@ -12,7 +12,7 @@ use lib.Dec.{eqb, ltb}
 use borrow.Author.Tests.{lt-ltb, le-ltb, le-leb, lt-leb, eq-eqb, ne-eqb, eqb-true}
 use Rattle.model.specs.Sizes.{tasks}
 use Rattle.model.specs.Lists.{_!_, upTo, member, select, keep, without, within}
-use Rattle.model.proofs.ListLaws.{or-elim, or-left, or-right, and-true, and-false, without-shorter, member-countFrom}
+use Rattle.model.proofs.ListLaws.{length-select, or-elim, or-left, or-right, and-true, and-false, without-shorter, member-countFrom}
 use Rattle.model.proofs.NumberLaws.{Names, NamesNone}
 use Rattle.priority.specs.Walk.{walked}
 
@@ -39,17 +39,9 @@ within-none n (inr e) = rw (lt-leb n tasks e, le-leb 1 n (omega arith))
 unfoldable pub unvisited : ℕ → List ℕ → ℕ
 unvisited p cs = length (select (λ t. ltb p (cs ! t)) (upTo tasks))
 
-select-most : (f : ℕ → Bool) (xs : List ℕ) → length (select f xs) ≤ length xs
-select-most f [] = omega arith
-select-most f (x ∷ xs) = go (f x) (select-most f xs)
-  where
-    go : (b : Bool) → length (select f xs) ≤ length xs → length (keep b x (select f xs)) ≤ suc (length xs)
-    go true h = omega arith
-    go false h = omega arith
-
 pub unvisited-most : (p : ℕ) (cs : List ℕ) → unvisited p cs ≤ tasks
 unfolding unvisited
-unvisited-most p cs = select-most (λ t. ltb p (cs ! t)) (upTo tasks)
+unvisited-most p cs = length-select (λ t. ltb p (cs ! t)) (upTo tasks)
 
 module _ (f : ℕ → Bool) (v : ℕ) where
   selected : (xs : List ℕ) → member v xs ≡ true → f v ≡ true → member v (select f xs) ≡ true

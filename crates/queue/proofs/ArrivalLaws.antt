@@ -16,7 +16,7 @@ use Rattle.model.specs.Lists.{upTo, zeros, padded, keep, select, member, withou
 use Rattle.model.specs.Facts.{Queue}
 use Rattle.model.specs.Kernel.{Kernel, others, departed, arrived, standsIn, facts, withArrivals, withPlace, withObject, withCurrents}
 use Rattle.model.specs.Act.{arrive}
-use Rattle.model.proofs.ListLaws.{or-elim, or-left, or-right, without-keeps, without-shorter, length-countFrom, member-countFrom, member-append}
+use Rattle.model.proofs.ListLaws.{length-select, or-elim, or-left, or-right, without-keeps, without-shorter, length-countFrom, member-countFrom, member-append}
 
 -- ---- selecting
 
@@ -51,14 +51,6 @@ pub select-padded : (p : ℕ → Bool) (n : ℕ) (xs : List ℕ) → p 0 ≡ fal
 select-padded p n xs e h = rw (padded-is n xs h, select-append, select-zeros p e (n - length xs), append-nil)
 
 -- ---- one task taken out
-
-length-select : (p : ℕ → Bool) (xs : List ℕ) → length (select p xs) ≤ length xs
-length-select p [] = omega arith
-length-select p (x ∷ xs) = go (p x) (length-select p xs)
-  where
-    go : (b : Bool) → length (select p xs) ≤ length xs → length (keep b x (select p xs)) ≤ suc (length xs)
-    go true h = omega arith
-    go false h = omega arith
 
 pub length-others : (t : ℕ) (ts : List ℕ) → length (others t ts) ≤ length ts
 unfolding others

@@ -27,17 +27,11 @@ own head = head .before .before .before
 loop-holds : tie.Need-loop-holds Inv-loop μ-loop
 loop-holds c = (record { length = c .before .before .start-from-own .ensures .length; kernel = passed-start _ }, omega arith)
 
-pass-on-requires : tie.Need-pass-on-requires Inv-loop μ-loop
-pass-on-requires c κs = let head = c .before .before in (head .loop .inv .0 .length, (omega arith, omega arith))
-
 loop-again : tie.Need-loop-again Inv-loop μ-loop
 loop-again c =
     let passed = c .before .before in
     let head = passed .before .before .before in
     (turn passedSoFar passedOn _ _ (head .loop .inv .0) (passed .pass-on .ensures) (passed-step _ _), omega arith)
-
-same-length : tie.Need-same-length Inv-loop μ-loop
-same-length c = let head = c .before in head .loop .inv .0 .length ∙ sym (own head .before .before .before .pre)
 
 returns : tie.Need-returns Inv-loop μ-loop
 returns c =
@@ -50,15 +44,9 @@ returns c =
 pub recompute-spec : {M : Type 1} → statement M
 recompute-spec =
     tie.close
-    (tie.spec
-    Inv-loop
-    μ-loop
-    (λ c κs. search needs)
-    loop-holds
-    (λ c. search needs)
-    pass-on-requires
-    (λ c. search needs)
-    (λ c. omega arith)
+    (tie.spec Inv-loop μ-loop (λ c κs. search needs) loop-holds (λ c. search needs)
+    (λ c κs. let head = c .before .before in (head .loop .inv .0 .length, (omega arith, omega arith)))
+    (λ c. search needs) (λ c. omega arith)
     loop-again
-    same-length
+    (λ c. let head = c .before in head .loop .inv .0 .length ∙ sym (own head .before .before .before .pre))
     returns)

@@ -36,13 +36,5 @@ returns-2 c =
 pub set-holder-to-own-spec : {M : Type 1} → statement M
 set-holder-to-own-spec =
     tie.close
-    (tie.spec
-    (λ c κs. search needs)
-    (λ c. search needs)
-    (λ c. search needs)
-    (λ c. search needs)
-    returns
-    own-priority-requires
-    (λ c κs. search needs)
-    (λ c. search needs)
-    returns-2)
+    (tie.spec (λ c κs. search needs) (λ c. search needs) (λ c. search needs) (λ c. search needs) returns own-priority-requires
+    (λ c κs. search needs) (λ c. search needs) returns-2)

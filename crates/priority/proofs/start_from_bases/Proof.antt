@@ -26,17 +26,11 @@ clear head = head .before .before .before
 loop-holds : tie.Need-loop-holds Inv-loop μ-loop
 loop-holds c = let r = c .before .before .set-every-current .ensures in (record { length = r .length; kernel = rw (r .kernel) (bases-start _) }, omega arith)
 
-set-to-base-requires : tie.Need-set-to-base-requires Inv-loop μ-loop
-set-to-base-requires c κs = let head = c .before .before in (head .loop .inv .0 .length, (omega arith, omega arith))
-
 loop-again : tie.Need-loop-again Inv-loop μ-loop
 loop-again c =
     let set = c .before .before in
     let head = set .before .before .before in
     (turn basesSoFar (λ k n. withCurrent k n (baseOf k n)) _ _ (head .loop .inv .0) (set .set-to-base .ensures) (bases-step _ _ (omega arith)), omega arith)
-
-same-length : tie.Need-same-length Inv-loop μ-loop
-same-length c = let head = c .before in head .loop .inv .0 .length ∙ sym (clear head .before .before .before .pre)
 
 returns : tie.Need-returns Inv-loop μ-loop
 returns c =
@@ -47,15 +41,9 @@ returns c =
 pub start-from-bases-spec : {M : Type 1} → statement M
 start-from-bases-spec =
     tie.close
-    (tie.spec
-    Inv-loop
-    μ-loop
-    (λ c κs. search needs)
-    loop-holds
-    (λ c. search needs)
-    set-to-base-requires
-    (λ c. search needs)
-    (λ c. omega arith)
+    (tie.spec Inv-loop μ-loop (λ c κs. search needs) loop-holds (λ c. search needs)
+    (λ c κs. let head = c .before .before in (head .loop .inv .0 .length, (omega arith, omega arith)))
+    (λ c. search needs) (λ c. omega arith)
     loop-again
-    same-length
+    (λ c. let head = c .before in head .loop .inv .0 .length ∙ sym (clear head .before .before .before .pre))
     returns)

@@ -25,17 +25,11 @@ bases head = head .before .before .before
 loop-holds : tie.Need-loop-holds Inv-loop μ-loop
 loop-holds c = let r = c .before .before .start-from-bases .ensures in (record { length = r .length; kernel = rw (r .kernel) (holders-start _) }, omega arith)
 
-set-holder-to-own-requires : tie.Need-set-holder-to-own-requires Inv-loop μ-loop
-set-holder-to-own-requires c κs = let head = c .before .before in (head .loop .inv .0 .length, (omega arith, omega arith))
-
 loop-again : tie.Need-loop-again Inv-loop μ-loop
 loop-again c =
     let set = c .before .before in
     let head = set .before .before .before in
     (turn holdersSoFar holderAtOwn _ _ (head .loop .inv .0) (set .set-holder-to-own .ensures) (holders-step _ _), omega arith)
-
-same-length : tie.Need-same-length Inv-loop μ-loop
-same-length c = let head = c .before in head .loop .inv .0 .length ∙ sym (bases head .before .before .before .pre)
 
 returns : tie.Need-returns Inv-loop μ-loop
 returns c =
@@ -46,15 +40,9 @@ returns c =
 pub start-from-own-spec : {M : Type 1} → statement M
 start-from-own-spec =
     tie.close
-    (tie.spec
-    Inv-loop
-    μ-loop
-    (λ c κs. search needs)
-    loop-holds
+    (tie.spec Inv-loop μ-loop (λ c κs. search needs) loop-holds (λ c. search needs)
+    (λ c κs. let head = c .before .before in (head .loop .inv .0 .length, (omega arith, omega arith)))
     (λ c. search needs)
-    set-holder-to-own-requires
-    (λ c. search needs)
-    (λ c. omega arith)
-    loop-again
-    same-length
+    (λ c. omega arith) loop-again
+    (λ c. let head = c .before in head .loop .inv .0 .length ∙ sym (bases head .before .before .before .pre))
     returns)

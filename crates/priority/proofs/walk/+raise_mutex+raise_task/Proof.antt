@@ -172,33 +172,9 @@ module _ (t : ℕ) where
 pub +raise-mutex+raise-task-spec : {M : Type 1} → statement M
 +raise-mutex+raise-task-spec =
     close μ-raise-mutex μ-raise-task
-    (λ t. raise-mutex-lts.spec (mutex-calls t)
-    (raise-mutex-at t)
-    raise-mutex.Post
-    (λ c κs. search needs)
-    (λ c. search needs)
-    (raise-mutex-returns t)
-    (λ c κs. search needs)
-    (λ c κs. search needs)
-    (λ c. search needs)
-    (λ c. search needs)
-    (λ c. search needs)
-    (raise-mutex-returns-2 t)
-    (raise-mutex-raise-task-requires t)
-    (λ c. search needs)
-    (raise-mutex-returns-3 t))
-    λ t. raise-task-lts.spec (task-calls t)
-    (raise-task-at t)
-    raise-task.Post
-    (λ c κs. search needs)
-    (λ c. search needs)
-    (raise-task-returns t)
-    (λ c κs. search needs)
-    (λ c κs. search needs)
-    (λ c. search needs)
-    (λ c. search needs)
-    (λ c. search needs)
-    (raise-task-returns-2 t)
-    (raise-task-raise-mutex-requires t)
-    (λ c. search needs)
-    (raise-task-returns-3 t)
+    (λ t. raise-mutex-lts.spec (mutex-calls t) (raise-mutex-at t) raise-mutex.Post
+    (λ c κs. search needs) (λ c. search needs) (raise-mutex-returns t) (λ c κs. search needs) (λ c κs. search needs) (λ c. search needs) (λ c. search needs)
+    (λ c. search needs) (raise-mutex-returns-2 t) (raise-mutex-raise-task-requires t) (λ c. search needs) (raise-mutex-returns-3 t))
+    λ t. raise-task-lts.spec (task-calls t) (raise-task-at t) raise-task.Post
+    (λ c κs. search needs) (λ c. search needs) (raise-task-returns t) (λ c κs. search needs) (λ c κs. search needs) (λ c. search needs) (λ c. search needs)
+    (λ c. search needs) (raise-task-returns-2 t) (raise-task-raise-mutex-requires t) (λ c. search needs) (raise-task-returns-3 t)

@@ -25,9 +25,4 @@ returns-2 c =
 pub awaited-mutex-spec : {M : Type 1} → statement M
 awaited-mutex-spec =
     tie.close
-    (tie.spec
-    (λ c κs. search needs)
-    (λ c κs. search needs)
-    (λ c κs. search needs)
-    returns
-    returns-2)
+    (tie.spec (λ c κs. search needs) (λ c κs. search needs) (λ c κs. search needs) returns returns-2)

@@ -13,28 +13,13 @@ module _ (s : tie.Start) where
   arm : (k : ℕ) → s .args .kind ≡ k → callIn fromBuffers k (three-back (s .args .a) (s .args .b) (s .args .c)) ≡ callIn fromBuffers (s .args .kind) (s .args .a ∷ s .args .b ∷ s .args .c ∷ [])
   arm = named fromBuffers (s .args .kind) (s .fits .a) (s .fits .b) (s .fits .c)
 
-returns : tie.Need-returns
+pub buffer-call-spec : {M : Type 1} → statement M
 unfolding callIn kinds fromMutexes fromBuffers fromPools
-returns c = arm (c .before) 0x20 (c .match .keys1)
-
-returns-2 : tie.Need-returns-2
-unfolding callIn kinds fromMutexes fromBuffers fromPools
-returns-2 c = arm (c .before) 0x21 (c .match .keys2)
-
-returns-3 : tie.Need-returns-3
-unfolding callIn kinds fromMutexes fromBuffers fromPools
-returns-3 c = arm (c .before) 0x22 (c .match .keys3)
-
-returns-4 : tie.Need-returns-4
-unfolding callIn kinds fromMutexes fromBuffers fromPools
-returns-4 c = arm (c .before) 0x23 (c .match .keys4)
-
-returns-5 : tie.Need-returns-5
-unfolding callIn kinds fromMutexes fromBuffers fromPools
-returns-5 c =
+buffer-call-spec =
+    tie.close
+    (tie.spec (λ c κs. search needs) (λ c. arm (c .before) 0x20 (c .match .keys1)) (λ c. arm (c .before) 0x21 (c .match .keys2))
+    (λ c. arm (c .before) 0x22 (c .match .keys3)) (λ c. arm (c .before) 0x23 (c .match .keys4))
+    (λ c.
     let s = c .before .before in
     let q = c .before .match .rest in
-    others fromBuffers (s .args .kind) (s .fits .a) (s .fits .b) (s .fits .c) 4 (q .0 .0 .0 .1, (q .0 .0 .1, (q .0 .1, (q .1, tt)))) _ (c .pool-call .ensures)
-
-pub buffer-call-spec : {M : Type 1} → statement M
-buffer-call-spec = tie.close (tie.spec (λ c κs. search needs) returns returns-2 returns-3 returns-4 returns-5)
+    others fromBuffers (s .args .kind) (s .fits .a) (s .fits .b) (s .fits .c) 4 (q .0 .0 .0 .1, (q .0 .0 .1, (q .0 .1, (q .1, tt)))) _ (c .pool-call .ensures)))

@@ -13,30 +13,15 @@ module _ (s : tie.Start) where
   arm : (k : ℕ) → s .args .kind ≡ k → callIn fromPools k (three-back (s .args .a) (s .args .b) (s .args .c)) ≡ callIn fromPools (s .args .kind) (s .args .a ∷ s .args .b ∷ s .args .c ∷ [])
   arm = named fromPools (s .args .kind) (s .fits .a) (s .fits .b) (s .fits .c)
 
-returns : tie.Need-returns
+pub pool-call-spec : {M : Type 1} → statement M
 unfolding callIn kinds fromMutexes fromBuffers fromPools
-returns c = arm (c .before) 0x30 (c .match .keys1)
-
-returns-2 : tie.Need-returns-2
-unfolding callIn kinds fromMutexes fromBuffers fromPools
-returns-2 c = arm (c .before) 0x31 (c .match .keys2)
-
-returns-3 : tie.Need-returns-3
-unfolding callIn kinds fromMutexes fromBuffers fromPools
-returns-3 c = arm (c .before) 0x32 (c .match .keys3)
-
-returns-4 : tie.Need-returns-4
-unfolding callIn kinds fromMutexes fromBuffers fromPools
-returns-4 c = arm (c .before) 0x33 (c .match .keys4)
-
-returns-5 : tie.Need-returns-5
-unfolding callIn kinds fromMutexes fromBuffers fromPools
-returns-5 c =
+pool-call-spec =
+    tie.close
+    (tie.spec (λ c. arm (c .before) 0x30 (c .match .keys1)) (λ c. arm (c .before) 0x31 (c .match .keys2))
+    (λ c. arm (c .before) 0x32 (c .match .keys3)) (λ c. arm (c .before) 0x33 (c .match .keys4))
+    (λ c.
     let s = c .before in
     let a = s .args in
     let q = c .match .rest in
     others fromPools (a .kind) (s .fits .a) (s .fits .b) (s .fits .c) 4 (q .0 .0 .0 .1, (q .0 .0 .1, (q .0 .1, (q .1, tt)))) Tick
-    (sym (ticks (row 0x40 0 0 (λ f. Tick)) (a .kind) (three-back (a .a) (a .b) (a .c)) refl))
-
-pub pool-call-spec : {M : Type 1} → statement M
-pool-call-spec = tie.close (tie.spec returns returns-2 returns-3 returns-4 returns-5)
+    (sym (ticks (row 0x40 0 0 (λ f. Tick)) (a .kind) (three-back (a .a) (a .b) (a .c)) refl))))
