@@ -45,8 +45,5 @@ pub recompute-spec : {M : Type 1} → statement M
 recompute-spec =
     tie.close
     (tie.spec Inv-loop μ-loop (λ c κs. search needs) loop-holds (λ c. search needs)
-    (λ c κs. let head = c .before .before in (head .loop .inv .0 .length, (omega arith, omega arith)))
-    (λ c. search needs) (λ c. omega arith)
-    loop-again
-    (λ c. let head = c .before in head .loop .inv .0 .length ∙ sym (own head .before .before .before .pre))
-    returns)
+    (λ c κs. let head = c .before .before in (head .loop .inv .0 .length, (omega arith, omega arith))) (λ c. search needs)
+    (λ c. omega arith) loop-again (λ c. let head = c .before in head .loop .inv .0 .length ∙ sym (own head .before .before .before .pre)) returns)

@@ -42,8 +42,5 @@ pub start-from-bases-spec : {M : Type 1} → statement M
 start-from-bases-spec =
     tie.close
     (tie.spec Inv-loop μ-loop (λ c κs. search needs) loop-holds (λ c. search needs)
-    (λ c κs. let head = c .before .before in (head .loop .inv .0 .length, (omega arith, omega arith)))
-    (λ c. search needs) (λ c. omega arith)
-    loop-again
-    (λ c. let head = c .before in head .loop .inv .0 .length ∙ sym (clear head .before .before .before .pre))
-    returns)
+    (λ c κs. let head = c .before .before in (head .loop .inv .0 .length, (omega arith, omega arith))) (λ c. search needs)
+    (λ c. omega arith) loop-again (λ c. let head = c .before in head .loop .inv .0 .length ∙ sym (clear head .before .before .before .pre)) returns)

@@ -44,5 +44,4 @@ start-from-own-spec =
     (λ c κs. let head = c .before .before in (head .loop .inv .0 .length, (omega arith, omega arith)))
     (λ c. search needs)
     (λ c. omega arith) loop-again
-    (λ c. let head = c .before in head .loop .inv .0 .length ∙ sym (bases head .before .before .before .pre))
-    returns)
+    (λ c. let head = c .before in head .loop .inv .0 .length ∙ sym (bases head .before .before .before .pre)) returns)

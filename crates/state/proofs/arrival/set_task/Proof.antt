@@ -12,7 +12,4 @@ use Rattle.state.proofs.arrival.set_task.Tie as tie
 pub set-task-spec : {M : Type 1} → statement M
 unfolding kernel sizes fromFields withArrivals
 set-task-spec =
-    tie.close
-    (tie.spec (λ c κs. omega arith) (λ c. search needs)
-    λ c. let a = c .before .before .before .before .before .args in
-    put (a .state .now) field.arrivals (a .v) (c .before .before .put .ensures) refl (search needs))
+    tie.close (tie.spec (λ c κs. omega arith) (λ c. search needs) λ c. let a = c .before .before .before .before .before .args in put (a .state .now) field.arrivals (a .v) (c .before .before .put .ensures) refl (search needs))

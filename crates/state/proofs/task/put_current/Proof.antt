@@ -12,7 +12,4 @@ use Rattle.state.proofs.task.put_current.Tie as tie
 pub put-current-spec : {M : Type 1} → statement M
 unfolding kernel sizes fromFields withCurrent
 put-current-spec =
-    tie.close
-    (tie.spec (λ c κs. omega arith) (λ c. search needs)
-    λ c. let a = c .before .before .before .before .before .args in
-    put (a .state .now) field.current (a .v) (c .before .before .put .ensures) refl (search needs))
+    tie.close (tie.spec (λ c κs. omega arith) (λ c. search needs) λ c. let a = c .before .before .before .before .before .args in put (a .state .now) field.current (a .v) (c .before .before .put .ensures) refl (search needs))
