@@ -15,6 +15,7 @@ use Rattle.model.specs.Sizes.{regionBytes}
 use Rattle.model.specs.Lists.{_!_, allZero, within}
 use Rattle.model.specs.Kernel.{Kernel}
 use Rattle.model.specs.Message.{cost, oldestLength, region}
+use Rattle.message.proofs.Layouts.{layout-none}
 use Rattle.model.specs.Valid.{layout, regionLayout}
 use Rattle.areas.specs.Messages.{oldestLaidOut}
 
@@ -37,10 +38,6 @@ layout-more : (n maxmsz used : ℕ) (r : List ℕ) → used ≢ 0
     → layout (suc n) maxmsz used r ≡ oldestLaidOut maxmsz used r && layout n maxmsz (used - cost (oldestLength r)) (drop (cost (oldestLength r)) r)
 unfolding oldestLaidOut
 layout-more n maxmsz used r some = rw (layout, ne-eqb used 0 some)
-
-layout-none : (n maxmsz : ℕ) (r : List ℕ) → layout n maxmsz 0 r ≡ allZero r
-layout-none zero maxmsz r = refl
-layout-none (suc n) maxmsz r = refl
 
 -- ---- the region of a buffer
 

@@ -152,7 +152,7 @@ laid-more n maxmsz used r s h f d =
           ∙ sym (append-assoc (packed (oldest r)) j (zeros (length r - used)));
     }
 
-layout-none : (n maxmsz : ℕ) (r : List ℕ) → layout n maxmsz 0 r ≡ allZero r
+pub layout-none : (n maxmsz : ℕ) (r : List ℕ) → layout n maxmsz 0 r ≡ allZero r
 layout-none zero maxmsz r = refl
 layout-none (suc n) maxmsz r = refl
 

@@ -5,20 +5,8 @@ use mathlib.Core.Bool.{Bool, true, false, _&&_, false≢true}
 use mathlib.Core.List.{List, [], _∷_, _++_, map}
 use lib.ListN.{getD}
 use Rattle.model.specs.Lists.{all}
+use Rattle.model.specs.Flags.{every, joinedTo, joinedFlags, passes}
 use Rattle.model.proofs.ListLaws.{bool-ext}
-
--- every flag is set
-abbrev pub every : List Bool → Bool
-every = all (λ b. b)
-
--- flags side by side, as `&` joins them
-abbrev pub joinedTo : Bool → List Bool → Bool
-joinedTo a [] = a
-joinedTo a (b ∷ bs) = joinedTo (a && b) bs
-
-abbrev pub joinedFlags : List Bool → Bool
-joinedFlags [] = true
-joinedFlags (b ∷ bs) = joinedTo b bs
 
 joined-to : (a : Bool) (bs : List Bool) → joinedTo a bs ≡ a && every bs
 joined-to true [] = refl
@@ -45,10 +33,6 @@ all-true (x ∷ xs) = all-true xs
 all-and : {A : Type 0} (p q : A → Bool) (xs : List A) → all (λ x. p x && q x) xs ≡ all p xs && all q xs
 all-and p q [] = refl
 all-and p q (x ∷ xs) = rw (all-and p q xs) (and-swap (p x) (q x) (all p xs) (all q xs))
-
--- whether a number passes all of some tests
-abbrev pub passes : List (ℕ → Bool) → ℕ → Bool
-passes ps n = all (λ p. p n) ps
 
 pub asked-together : (ps : List (ℕ → Bool)) (n : ℕ) → joinedFlags (map (λ p. p n) ps) ≡ passes ps n
 asked-together ps n = joined-every (map (λ p. p n) ps) ∙ go ps

@@ -1,5 +1,6 @@
 pub mod Sizes
 pub mod Lists
+pub mod Flags
 pub mod Number
 pub mod Code
 pub mod Facts

@@ -5,7 +5,7 @@ use native.Mathlib.Numerals.{one-add}
 use native.Mathlib.Omega.{arith}
 use mathlib.Core.Path.{_≡_, _∙_, refl, sym}
 use mathlib.Core.Logic.{_⊎_, inl, inr}
-use mathlib.Core.Bool.{Bool, true, false, _&&_, cond}
+use mathlib.Core.Bool.{Bool, true, false, _&&_, cond, and-true, and-false}
 use mathlib.Core.List.{[], map}
 use lib.Dec.{eqb}
 use borrow.Author.Tests.{eq-eqb, ne-eqb}
@@ -16,7 +16,6 @@ use Rattle.model.specs.Priority.{mostUrgent, ownPriority}
 use Rattle.model.specs.Kernel.{Kernel, facts}
 use Rattle.model.specs.Number.{wordNumber, maybeTask}
 use Rattle.model.specs.declared.number.MaybeTask as mTask
-use Rattle.model.proofs.ListLaws.{and-true, and-false}
 use Rattle.model.proofs.NumberLaws.{Names, NamesNone, numbered-at}
 use Rattle.priority.specs.Least.{least}
 use Rattle.priority.specs.Own.{ownOf, baseOf, holdsCeiling, withCeilingOf, ceilingHolder}

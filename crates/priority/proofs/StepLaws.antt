@@ -4,7 +4,7 @@ use native.Mathlib.Decide.{ℕ-discrete, decLe}
 use native.Mathlib.Omega.{arith}
 use mathlib.Core.Path.{_≡_, _∙_, refl, sym, ap}
 use mathlib.Core.Logic.{_⊎_, inl, inr}
-use mathlib.Core.Bool.{Bool, true, false, _&&_, not, false≢true}
+use mathlib.Core.Bool.{Bool, true, false, _&&_, not, false≢true, and-true, and-false}
 use mathlib.Core.List.{List, [], _∷_}
 use lib.ListN.{length, set, length-set}
 use lib.Seq.{getD-set-same, getD-set-other}
@@ -12,7 +12,7 @@ use lib.Dec.{eqb, ltb}
 use borrow.Author.Tests.{lt-ltb, le-ltb, le-leb, lt-leb, eq-eqb, ne-eqb, eqb-true}
 use Rattle.model.specs.Sizes.{tasks}
 use Rattle.model.specs.Lists.{_!_, upTo, member, select, keep, without, within}
-use Rattle.model.proofs.ListLaws.{length-select, or-elim, or-left, or-right, and-true, and-false, without-shorter, member-countFrom}
+use Rattle.model.proofs.ListLaws.{length-select, or-elim, or-left, or-right, without-shorter, member-countFrom}
 use Rattle.model.proofs.NumberLaws.{Names, NamesNone}
 use Rattle.priority.specs.Walk.{walked}
 

@@ -7,7 +7,8 @@ use lib.Dec.{eqb}
 use borrow.Author.Tests.{eq-eqb}
 use Rattle.model.specs.Lists.{_!_}
 use Rattle.model.specs.Valid.{lists}
-use Rattle.model.proofs.FlagLaws.{every, joinedFlags, joined-every}
+use Rattle.model.specs.Flags.{every, joinedFlags}
+use Rattle.model.proofs.FlagLaws.{joined-every}
 use Rattle.model.specs.Words.{cut, sizes}
 use Rattle.state.proofs.LayoutLaws.{offset, read}
 use Rattle.state.specs.Layout.{entry}

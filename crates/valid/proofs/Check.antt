@@ -12,7 +12,8 @@ use Rattle.model.specs.Lists.{_!_, all, countFrom, upTo, within}
 use Rattle.model.specs.Kernel.{Kernel, slot}
 use Rattle.model.specs.World.{Lent}
 use Rattle.model.specs.Valid.{TaskLists, MutexLists, BufferLists, PoolLists, lengths, taskRange, bufferRange, blockFlag, argument, waitFields, ceiling, lockingTask, gettingTask, receivingTask, firstSender, valid}
-use Rattle.model.proofs.FlagLaws.{joinedFlags, passes, asked-together}
+use Rattle.model.specs.Flags.{joinedFlags, passes}
+use Rattle.model.proofs.FlagLaws.{asked-together}
 use Rattle.model.specs.Words.{wordCount, sizes, fields, kernel}
 use Rattle.state.proofs.WordLaws.{sized, size-of}
 use Rattle.model.specs.Field as field

@@ -11,7 +11,8 @@ use Rattle.model.specs.Kernel.{Kernel}
 use Rattle.model.specs.World.{Lent}
 use Rattle.model.specs.Refusal.{poolSum}
 use Rattle.model.specs.Valid.{lists, taskLists, mutexLists, bufferLists, poolLists, lengths, taskRange, mutexRange, bufferRange, poolRange, blockFlag, argument, waitFields, arrivals, currentPriorities, ceiling, lockingTask, gettingTask, receivingTask, firstSender, regionLayout, outboxPart, valid}
-use Rattle.model.proofs.FlagLaws.{every, joinedFlags, joined-every, passes, test-by-test, every-append, same-flags}
+use Rattle.model.specs.Flags.{every, joinedFlags, passes}
+use Rattle.model.proofs.FlagLaws.{joined-every, test-by-test, every-append, same-flags}
 use Rattle.model.specs.Words.{wordCount}
 use Rattle.valid.specs.Agree.{asDefined}
 

@@ -20,7 +20,7 @@ ghost use mathlib.Core.Path.{_≡_};
 ghost use lib.ListN.{length};
 ghost use Rattle.model.specs.Sizes.{tasks, mutexes, buffers, pools};
 ghost use Rattle.model.specs.Valid.{TaskLists, MutexLists, BufferLists, PoolLists};
-ghost use Rattle.model.proofs.FlagLaws.{joinedFlags};
+ghost use Rattle.model.specs.Flags.{joinedFlags};
 ghost use Rattle.model.specs.Words.{wordCount, kernel};
 ghost use Rattle.model.specs.Lent.{lent, isValid};
 ghost use Rattle.valid.specs.Check.{rightLengths, noneZero, clauses};

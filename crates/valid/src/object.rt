@@ -19,7 +19,7 @@ ghost use lib.ListN.{length};
 ghost use Rattle.model.specs.Sizes.{tasks, mutexes, buffers, pools};
 ghost use Rattle.model.specs.Lists.{all, upTo};
 ghost use Rattle.model.specs.Valid.{MutexLists, BufferLists, PoolLists};
-ghost use Rattle.model.proofs.FlagLaws.{passes};
+ghost use Rattle.model.specs.Flags.{passes};
 ghost use Rattle.model.specs.Words.{wordCount, kernel};
 ghost use Rattle.valid.specs.Check.{taskTests, bufferTests};
 

@@ -1,7 +1,7 @@
 -- `buffers_valid` meets its contract. The loop's invariant: the buffers still to be asked decide. Assumes nothing.
 use Prim.Native.Nat.{suc, _-_}
 use Rattle.model.specs.Sizes.{buffers}
-use Rattle.model.proofs.FlagLaws.{passes}
+use Rattle.model.specs.Flags.{passes}
 use Rattle.model.proofs.NumberLaws.{bufferKind}
 use Rattle.model.proofs.Loops.{AskedAll, asks}
 use Rattle.model.specs.Words.{kernel}

@@ -1,7 +1,7 @@
 -- `tasks_valid` meets its contract. The loop's invariant: the tasks still to be asked decide. Assumes nothing.
 use Prim.Native.Nat.{suc, _-_}
 use Rattle.model.specs.Sizes.{tasks}
-use Rattle.model.proofs.FlagLaws.{passes}
+use Rattle.model.specs.Flags.{passes}
 use Rattle.model.proofs.NumberLaws.{taskKind}
 use Rattle.model.proofs.Loops.{AskedAll, asks}
 use Rattle.model.specs.Words.{kernel}
