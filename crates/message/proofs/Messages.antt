@@ -6,22 +6,10 @@ use mathlib.Core.List.{List, _++_, append-assoc}
 use mathlib.Core.Path.{_≡_, _∙_, sym, ap}
 use lib.ListN.{length, take, drop, length-append, length-replicate}
 use lib.Seq.{take-append-seam, drop-at}
+use Rattle.model.proofs.NumberLaws.{number4-bytes4}
 use Rattle.model.specs.Lists.{zeros}
 use Rattle.model.specs.Code.{number4}
 use Rattle.model.specs.Message.{roundedUp, cost, packed, oldestLength, oldest, removed}
-
--- four bytes give the number that they were made of
-pub number4-bytes4 : (n : ℕ) → n < 2 ^ 32 → number4 (n % 256) (n / 256 % 256) (n / 65536 % 256) (n / 16777216 % 256) ≡ n
-number4-bytes4 n h =
-    let a : ℕ = n / 256 in
-    let b : ℕ = n / 65536 in
-    let c : ℕ = n / 16777216 in
-    let p : b ≡ a / 256 = sym (div-div-eq-div-mul n 256 256) in
-    let q : c ≡ b / 256 = sym (div-div-eq-div-mul n 65536 256) in
-    four n a b c (n % 256) (a % 256) (b % 256) (sym (div-add-mod' n 256)) (rw p (sym (div-add-mod' a 256))) (rw q (sym (div-add-mod' b 256))) h
-  where
-    four : (n a b c x y z : ℕ) → n ≡ a * 256 + x → a ≡ b * 256 + y → b ≡ c * 256 + z → n < 2 ^ 32 → number4 x y z (c % 256) ≡ n
-    four n a b c x y z e f g h = omega arith
 
 pub length-packed : (m : List ℕ) → length (packed m) ≡ cost (length m)
 unfolding packed cost

@@ -9,7 +9,7 @@ use lib.ListN.{length, take, drop, length-take, length-drop, length-append, leng
 use lib.Seq.{sets, take-all, take-take, length-take-le}
 use Rattle.model.specs.Sizes.{regionBytes, messageBytes}
 use Rattle.model.specs.Lists.{zeros, padded}
-use Rattle.model.specs.Message.{oldestLength, oldest, part, withPart, region, withRegion, outboxMessage, withOutboxMessage}
+use Rattle.model.specs.Message.{handed, oldestLength, oldest, part, withPart, region, withRegion, outboxMessage, withOutboxMessage}
 use Rattle.model.proofs.ListLaws.{take-zeros}
 use Rattle.message.specs.Parts.{Bounds}
 use Rattle.message.proofs.Stores.{overwritten-sets, sets-behind, sets-first, sets-over, sets-whole}
@@ -59,6 +59,11 @@ lent-stores r x {size} {k} e h = go (decLe (length x) k)
 
 pub length-padded : (n : ℕ) (m : List ℕ) → length (padded n m) ≡ n
 length-padded n m = length-take-le n (m ++ zeros n) (rw (length-append, length-replicate) (omega arith))
+
+-- a send's message has as many bytes as msgsz says, however many were handed over
+pub length-handed : (n : ℕ) (bytes : List ℕ) → n ≤ messageBytes → length (take n (handed bytes)) ≡ n
+unfolding handed
+length-handed n bytes h = length-take-le n (padded messageBytes bytes) (rw (length-padded messageBytes bytes) h)
 
 zeros-behind : (k n : ℕ) (m : List ℕ) → k ≤ n → take k (m ++ zeros n) ≡ take k (m ++ zeros k)
 zeros-behind k n [] h = take-zeros k n h ∙ sym (take-zeros k k (omega arith))

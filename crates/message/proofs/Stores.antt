@@ -72,22 +72,22 @@ sets-lent xs l a =
     rw (take-all (length l - a) (drop a l) all, drop-of-length-le (drop a l) all, append-nil) (sym (sets-behind a xs l))
 
 -- What a loop has still to store of xs from `at` on, into what was r₀ at its beginning and is r after i stores.
-pub record Left (xs : List ℕ) (at : ℕ) (r₀ r : List ℕ) (i : ℕ) : Type 0 where
+pub record LeftToStore (xs : List ℕ) (at : ℕ) (r₀ r : List ℕ) (i : ℕ) : Type 0 where
   pub size : length r ≡ length r₀
   pub rest : sets r (at + i) (drop i xs) ≡ sets r₀ at xs
 
 module _ {xs : List ℕ} {at : ℕ} {r₀ : List ℕ} where
-  pub left-all : Left xs at r₀ r₀ 0
+  pub left-all : LeftToStore xs at r₀ r₀ 0
   left-all = record { size = refl; rest = rw add-zero }
 
-  pub left-turn : {r : List ℕ} {i v : ℕ} → Left xs at r₀ r i → i < length xs → getD xs i 0 ≡ v → Left xs at r₀ (set r (at + i) v) (i + 1)
+  pub left-turn : {r : List ℕ} {i v : ℕ} → LeftToStore xs at r₀ r i → i < length xs → getD xs i 0 ≡ v → LeftToStore xs at r₀ (set r (at + i) v) (i + 1)
   left-turn {r} {i} {v} l h e =
       record {
         size = length-set r (at + i) v ∙ l .size;
         rest = rw (add-one, add-suc, ← e) (rw (drop-cons xs i 0 h) at (l .rest));
       }
 
-  pub left-none : {r : List ℕ} {i : ℕ} → Left xs at r₀ r i → min (length xs) (length r₀ - at) ≤ i → r ≡ sets r₀ at xs
+  pub left-none : {r : List ℕ} {i : ℕ} → LeftToStore xs at r₀ r i → min (length xs) (length r₀ - at) ≤ i → r ≡ sets r₀ at xs
   left-none {r} {i} l h = go (decLe (length xs) i) ∙ l .rest
     where
       go : Dec (length xs ≤ i) → r ≡ sets r (at + i) (drop i xs)
@@ -96,7 +96,7 @@ module _ {xs : List ℕ} {at : ℕ} {r₀ : List ℕ} where
 
 -- Bytes moved to the front within one list by such a loop: from i on it is still as it was.
 pub record Moved (by : ℕ) (r₀ r : List ℕ) (i : ℕ) : Type 0 where
-  pub left : Left (drop by r₀) 0 r₀ r i
+  pub left : LeftToStore (drop by r₀) 0 r₀ r i
   pub same : drop i r ≡ drop i r₀
 
 module _ {by : ℕ} {r₀ : List ℕ} where

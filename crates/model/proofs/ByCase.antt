@@ -6,7 +6,7 @@ use mathlib.Core.Bool.{Bool, true, false}
 use mathlib.Core.List.{List, [], _∷_}
 use mathlib.Core.Option.{none, some}
 use lib.ListN.{length}
-use lib.IntN.{ℤ}
+use lib.IntN.{ℤ, pos}
 use borrow.Author.Tests.{eq-eqb, ne-eqb, lt-ltb, le-ltb, le-leb, lt-leb}
 use Rattle.model.specs.declared.call.Call.{Call}
 use Rattle.model.specs.declared.call.Cursor.{Cursor}
@@ -15,18 +15,19 @@ use Rattle.model.specs.declared.call.Progress.the-variants.{NoArea}
 use Rattle.model.specs.Sizes.{endless, logBytes, scriptBytes}
 use Rattle.model.specs.Lists.{_!_, firstWhere, select}
 use Rattle.model.specs.Code.{E-OK, E-SYS, E-TMOUT}
-use Rattle.model.specs.Facts.{queue, locking, sending}
-use Rattle.model.specs.Kernel.{Kernel, withHolder, withLeft}
-use Rattle.model.specs.World.{World, Lent, Nothing, begun, withKernel, queueFront, recompute, running}
+use Rattle.model.specs.Facts.{queue, locking, sending, receiving, getting}
+use Rattle.model.specs.Kernel.{Kernel, withHolder, withLeft, withTaken, slot}
+use Rattle.model.specs.World.{World, Lent, Nothing, begun, withKernel, queueFront, recompute, running, withOutbox, Message, Block}
 use Rattle.model.specs.Message.{withOutboxMessage}
-use Rattle.model.specs.Act.{recomputeIf, leaveOutbox, settled, endWait, release, serve}
-use Rattle.model.specs.Refusal.{Refusal, firstRefusal, refusals}
-use Rattle.model.specs.Effect.{effect, tickTask}
+use Rattle.model.specs.Act.{recomputeIf, leaveOutbox, settled, endWait, release, serve, wait, storeMessage}
+use Rattle.model.specs.Refusal.{Refusal, firstRefusal, refusals, lockWaits, storable, freeBlock}
+use Rattle.model.specs.Effect.{effect, tickTask, locMtx, sndMbf, getMpf, relMpf, waits, succeeds, answered}
 use Rattle.model.specs.Valid.{valid}
 use Rattle.model.specs.Step.{carriedOut, refused, validStep, step}
 use Rattle.model.specs.Record.{readRecord, recordMessage}
-use Rattle.model.specs.Log.{stopBytes, tooLongBytes}
+use Rattle.model.specs.Log.{stopBytes, tooLongBytes, outcomeLog}
 use Rattle.model.specs.Lent.{Areas, lent, isValid, notValid, untouched, returned, lentStep, scriptOver, went, lentRecord}
+use Rattle.model.specs.Script.{ran, logThen, runFrom, run, runScript}
 
 -- ---- the first that passes a test, and those that do
 
@@ -100,6 +101,49 @@ module _ (w : World) (t : ℕ) where
   unfolding tickTask
   tick-more h i j = rw (ne-eqb _ _ h, ne-eqb _ _ i, ne-eqb _ _ j)
 
+-- ---- calls that may wait
+
+module _ (w : World) (n : ℕ) (timeout : ℤ) where
+  pub lock-waits : lockWaits (w .kernel) n ≡ true → locMtx w n timeout ≡ waits (wait w (running (w .kernel)) (queue locking n) 0 timeout)
+  unfolding locMtx
+  lock-waits e = rw e
+
+  pub lock-free : lockWaits (w .kernel) n ≡ false → locMtx w n timeout ≡ succeeds (settled (withKernel w (withHolder (w .kernel) n (running (w .kernel)))))
+  unfolding locMtx
+  lock-free e = rw e
+
+  pub get-waits : freeBlock (w .kernel) n ≡ 0 → getMpf w n timeout ≡ waits (wait w (running (w .kernel)) (queue getting n) 0 timeout)
+  unfolding getMpf
+  get-waits e = rw e
+
+  pub get-block : {b : ℕ} → freeBlock (w .kernel) n ≡ b → b ≢ 0 → getMpf w n timeout ≡ answered E-OK (Block b) (withKernel w (withTaken (w .kernel) (slot n b) 1))
+  unfolding getMpf
+  get-block e d = rw (e, ne-eqb _ _ d)
+
+module _ (w : World) (n : ℕ) (m : List ℕ) (timeout : ℤ) where
+  pub send-over : {r : ℕ} → queueFront (w .kernel) (queue receiving n) ≡ r → r ≢ 0 → sndMbf w n m timeout ≡ succeeds (endWait w r (pos (length m)) (Message m))
+  unfolding sndMbf
+  send-over e d = rw (e, ne-eqb _ _ d)
+
+  module _ (nobody : queueFront (w .kernel) (queue receiving n) ≡ 0) where
+    pub send-stored : storable (w .kernel) n (length m) ≡ true → sndMbf w n m timeout ≡ succeeds (storeMessage w n m)
+    unfolding sndMbf
+    send-stored e = rw (nobody, e)
+
+    pub send-waits : storable (w .kernel) n (length m) ≡ false
+        → sndMbf w n m timeout ≡ waits (wait (withOutbox w (withOutboxMessage (running (w .kernel)) (w .outbox) m)) (running (w .kernel)) (queue sending n) (length m) timeout)
+    unfolding sndMbf
+    send-waits e = rw (nobody, e)
+
+module _ (w : World) (n b : ℕ) where
+  pub return-free : queueFront (w .kernel) (queue getting n) ≡ 0 → relMpf w n b ≡ succeeds (withKernel w (withTaken (w .kernel) (slot n b) 0))
+  unfolding relMpf
+  return-free e = rw e
+
+  pub return-next : {t : ℕ} → queueFront (w .kernel) (queue getting n) ≡ t → t ≢ 0 → relMpf w n b ≡ succeeds (endWait w t E-OK (Block b))
+  unfolding relMpf
+  return-next e d = rw (e, ne-eqb _ _ d)
+
 -- ---- refusals and the step
 
 module _ (r : Refusal) (rs : List Refusal) where
@@ -167,3 +211,27 @@ module _ (a : Areas) (script : List ℕ) (at : ℕ) where
             → lentRecord a script at ≡ went (lentStep a c (recordMessage script at)) (next .at)
         unfolding lentRecord
         record-runs e = rw (eq-eqb _ _ log, le-ltb _ _ short, lt-leb _ _ inside, e)
+
+-- ---- a run of records
+
+module _ (n : ℕ) (x : Lent) (script : List ℕ) (at : ℕ) where
+  pub run-over : length script ≤ at → runFrom (suc n) x script at ≡ ran [] x
+  run-over h = rw (le-leb (length script) at h, runFrom)
+
+  module _ (inside : at < length script) where
+    pub run-stops : {offset : ℕ} → readRecord script at ≡ Stop offset → runFrom (suc n) x script at ≡ ran (stopBytes offset) x
+    run-stops e = rw (lt-leb (length script) at inside, e, runFrom)
+
+    pub run-goes-on : {c : Call} {next : Cursor} → readRecord script at ≡ Record c next
+        → runFrom (suc n) x script at
+        ≡ logThen (outcomeLog (running (x .kernel)) (step x c (recordMessage script at))) (runFrom n (step x c (recordMessage script at) .lent) script (next .at))
+    run-goes-on e = rw (lt-leb (length script) at inside, e, runFrom)
+
+module _ (x : Lent) (script : List ℕ) where
+  pub script-too-long : scriptBytes < length script → runScript x script ≡ ran tooLongBytes x
+  unfolding runScript
+  script-too-long h = rw (lt-ltb scriptBytes (length script) h, runScript)
+
+  pub script-runs : length script ≤ scriptBytes → runScript x script ≡ run x script
+  unfolding runScript
+  script-runs h = rw (le-ltb scriptBytes (length script) h, runScript)

@@ -1,5 +1,6 @@
 -- Laws of numbers of objects: what a word names, and what a list by number has there. Assumes nothing.
-use Prim.Native.Nat.{ℕ, zero, suc, _≤_, _<_}
+use Prim.Native.Nat.{ℕ, zero, suc, _*_, _+_, _/_, _%_, _^_, _≤_, _<_}
+use native.Mathlib.Nat.{div-div-eq-div-mul, div-add-mod'}
 use native.Mathlib.Decide.{decLe, ℕ-discrete}
 use native.Mathlib.Omega.{arith}
 use mathlib.Core.Path.{_≡_, _∙_, refl, sym, ap}
@@ -13,7 +14,7 @@ use borrow.Author.Tests.{eqb-true, eq-eqb, eqb-false, lt-ltb, le-ltb}
 use Rattle.model.specs.Sizes.{tasks, mutexes, buffers, pools}
 use Rattle.model.specs.Lists.{_!_}
 use Rattle.model.specs.Kernel.{numbered}
-use Rattle.model.specs.Code.{number}
+use Rattle.model.specs.Code.{number, number4}
 use Rattle.model.specs.Number.{wordNumber, fieldNumber, maybeTask, maybeMutex, maybeBuffer, maybePool}
 use Rattle.model.specs.Refusal.{outside}
 use Rattle.model.proofs.ListLaws.{or-right}
@@ -27,6 +28,19 @@ use Rattle.model.specs.declared.number.MaybeBuffer.{MaybeBuffer}
 use Rattle.model.specs.declared.number.MaybeBuffer.the-variants.{Buffer, Nothing as NoBuffer}
 use Rattle.model.specs.declared.number.MaybePool.{MaybePool}
 use Rattle.model.specs.declared.number.MaybePool.the-variants.{Pool, Nothing as NoPool}
+
+-- four bytes give the number that they were made of
+pub number4-bytes4 : (n : ℕ) → n < 2 ^ 32 → number4 (n % 256) (n / 256 % 256) (n / 65536 % 256) (n / 16777216 % 256) ≡ n
+number4-bytes4 n h =
+    let a : ℕ = n / 256 in
+    let b : ℕ = n / 65536 in
+    let c : ℕ = n / 16777216 in
+    let p : b ≡ a / 256 = sym (div-div-eq-div-mul n 256 256) in
+    let q : c ≡ b / 256 = sym (div-div-eq-div-mul n 65536 256) in
+    four n a b c (n % 256) (a % 256) (b % 256) (sym (div-add-mod' n 256)) (rw p (sym (div-add-mod' a 256))) (rw q (sym (div-add-mod' b 256))) h
+  where
+    four : (n a b c x y z : ℕ) → n ≡ a * 256 + x → a ≡ b * 256 + y → b ≡ c * 256 + z → n < 2 ^ 32 → number4 x y z (c % 256) ≡ n
+    four n a b c x y z e f g h = omega arith
 
 -- a word is a number up to the last, or it names nothing
 abbrev pub Names : ℕ → ℕ → ℕ → Type 0
@@ -143,9 +157,9 @@ module _ {A : Type 0} (kind : Kind A) {found : A} where
         go (inl z) = omega arith
         go (inr l) = omega arith
 
-abbrev pub kindOf : {A : Type 0} (last : ℕ) (none : A) (some make : ℕ → A) → ((n : ℕ) → make n ≡ cond (eqb n 0) none (some n))
+abbrev pub numberKind : {A : Type 0} (last : ℕ) (none : A) (some make : ℕ → A) → ((n : ℕ) → make n ≡ cond (eqb n 0) none (some n))
     → (code : A → ℕ) → code none ≡ 0 → ((n : ℕ) → code (some n) ≡ suc n) → Kind A
-kindOf last none some make made code a b =
+numberKind last none some make made code a b =
     record { last = last; none = none; some = some; make = make; made = made; code = code; none-code = a; some-code = b }
 
 pub task-made : (n : ℕ) → maybeTask n ≡ cond (eqb n 0) NoTask (Task (record { 0 = n }))
@@ -153,28 +167,28 @@ unfolding maybeTask
 task-made n = refl
 
 abbrev pub taskKind : Kind MaybeTask
-taskKind = kindOf tasks NoTask (λ n. Task (record { 0 = n })) maybeTask task-made (λ x. elim x [ NoTask ↦ 0 | Task n ↦ suc (n .0) ]) refl (λ n. refl)
+taskKind = numberKind tasks NoTask (λ n. Task (record { 0 = n })) maybeTask task-made (λ x. elim x [ NoTask ↦ 0 | Task n ↦ suc (n .0) ]) refl (λ n. refl)
 
 pub mutex-made : (n : ℕ) → maybeMutex n ≡ cond (eqb n 0) NoMutex (Mutex (record { 0 = n }))
 unfolding maybeMutex
 mutex-made n = refl
 
 abbrev pub mutexKind : Kind MaybeMutex
-mutexKind = kindOf mutexes NoMutex (λ n. Mutex (record { 0 = n })) maybeMutex mutex-made (λ x. elim x [ NoMutex ↦ 0 | Mutex n ↦ suc (n .0) ]) refl (λ n. refl)
+mutexKind = numberKind mutexes NoMutex (λ n. Mutex (record { 0 = n })) maybeMutex mutex-made (λ x. elim x [ NoMutex ↦ 0 | Mutex n ↦ suc (n .0) ]) refl (λ n. refl)
 
 pub buffer-made : (n : ℕ) → maybeBuffer n ≡ cond (eqb n 0) NoBuffer (Buffer (record { 0 = n }))
 unfolding maybeBuffer
 buffer-made n = refl
 
 abbrev pub bufferKind : Kind MaybeBuffer
-bufferKind = kindOf buffers NoBuffer (λ n. Buffer (record { 0 = n })) maybeBuffer buffer-made (λ x. elim x [ NoBuffer ↦ 0 | Buffer n ↦ suc (n .0) ]) refl (λ n. refl)
+bufferKind = numberKind buffers NoBuffer (λ n. Buffer (record { 0 = n })) maybeBuffer buffer-made (λ x. elim x [ NoBuffer ↦ 0 | Buffer n ↦ suc (n .0) ]) refl (λ n. refl)
 
 pub pool-made : (n : ℕ) → maybePool n ≡ cond (eqb n 0) NoPool (Pool (record { 0 = n }))
 unfolding maybePool
 pool-made n = refl
 
 abbrev pub poolKind : Kind MaybePool
-poolKind = kindOf pools NoPool (λ n. Pool (record { 0 = n })) maybePool pool-made (λ x. elim x [ NoPool ↦ 0 | Pool n ↦ suc (n .0) ]) refl (λ n. refl)
+poolKind = numberKind pools NoPool (λ n. Pool (record { 0 = n })) maybePool pool-made (λ x. elim x [ NoPool ↦ 0 | Pool n ↦ suc (n .0) ]) refl (λ n. refl)
 
 -- ---- the same, each kind by its name
 

@@ -84,11 +84,11 @@ abbrev pub ceilingOf : ℕ → Lent → ℕ
 ceilingOf m x = x .kernel .mutexes .ceiling ! m
 
 -- a byte of the store, and a byte of a task's part of the outbox, counted from 0
-abbrev pub stored : ℕ → Lent → ℕ
-stored i x = x .store ! i
+abbrev pub storeByte : ℕ → Lent → ℕ
+storeByte i x = x .store ! i
 
-abbrev pub waiting : ℕ → ℕ → Lent → ℕ
-waiting t i x = part messageBytes t (x .outbox) ! i
+abbrev pub outboxByte : ℕ → ℕ → Lent → ℕ
+outboxByte t i x = part messageBytes t (x .outbox) ! i
 
 -- the first n of the bytes that each send carries
 abbrev pub message : ℕ → Delivery
@@ -143,7 +143,7 @@ tooSmall =
 justFits : Case
 justFits =
     case (CreMbf (pos 0) (pos 36) (pos 32) ∷ send32 ∷ [])
-    (used 1 ∷ stored 0 ∷ stored 1 ∷ stored 3 ∷ stored 4 ∷ stored 5 ∷ stored 35 ∷ [])
+    (used 1 ∷ storeByte 0 ∷ storeByte 1 ∷ storeByte 3 ∷ storeByte 4 ∷ storeByte 5 ∷ storeByte 35 ∷ [])
     (seen (new 1 ∷ OK ∷ []) [] [] (36 ∷ 32 ∷ 0 ∷ 0 ∷ 1 ∷ 2 ∷ 32 ∷ []))
 
 -- "Receive: the oldest stored message"
@@ -151,7 +151,7 @@ oldestFirst : Case
 oldestFirst =
     case
     (CreMbf (pos 0) (pos 256) (pos 32) ∷ SndMbf (pos 1) (pos 5) forever ∷ SndMbf (pos 1) (pos 2) forever ∷ RcvMbf (pos 1) forever ∷ [])
-    (used 1 ∷ stored 0 ∷ stored 4 ∷ stored 5 ∷ stored 6 ∷ stored 8 ∷ [])
+    (used 1 ∷ storeByte 0 ∷ storeByte 4 ∷ storeByte 5 ∷ storeByte 6 ∷ storeByte 8 ∷ [])
     (seen (new 1 ∷ OK ∷ OK ∷ new 5 ∷ []) [] ((1, message 5) ∷ []) (8 ∷ 2 ∷ 1 ∷ 2 ∷ 0 ∷ 0 ∷ []))
 
 -- "bufsz 0: always handed over": to a receiver that comes, and to one that waits
@@ -203,7 +203,7 @@ noPassing : Case
 noPassing =
     case
     (second ++ CreMbf (pos 0) (pos 56) (pos 32) ∷ send32 ∷ SndMbf (pos 1) (pos 28) forever ∷ SndMbf (pos 1) (pos 4) forever ∷ [])
-    (used 1 ∷ waiting 1 0 ∷ waiting 1 27 ∷ waiting 1 28 ∷ waiting 2 0 ∷ waiting 2 3 ∷ waiting 2 4 ∷ [])
+    (used 1 ∷ outboxByte 1 0 ∷ outboxByte 1 27 ∷ outboxByte 1 28 ∷ outboxByte 2 0 ∷ outboxByte 2 3 ∷ outboxByte 2 4 ∷ [])
     (seen (new 2 ∷ OK ∷ new 1 ∷ OK ∷ Waits ∷ Waits ∷ []) [] [] (36 ∷ 1 ∷ 28 ∷ 0 ∷ 1 ∷ 4 ∷ 0 ∷ []))
 
 -- ---- inheritance

@@ -231,3 +231,10 @@ entered l c (Code (negsuc e)) ended = l
 entered l c (Code (pos n)) ended = foldl endsWait (answeredWith l c n) ended
 entered l c Waits ended = foldl endsWait (waiting l c) ended
 entered l c Exits ended = foldl endsWait (fallsDormant l (ledgerRuns l)) ended
+
+-- what has to unfold for the definitions of this file to compute
+unfoldable pub computeLedger : Unit {0}
+unfolding withTaskEntry withMutexEntry withBufferEntry withPoolEntry withLines freshLedger line depart join lineOf standing
+    ledgerFacts ledgerPriorities ledgerOrder ledgerRuns onTask holds onMutex fallsDormant starts rebased changes answeredWith
+    waitsIn waiting endsWait entered
+computeLedger = tt

@@ -19,7 +19,7 @@ pub mod Step
 pub mod Record
 pub mod Log
 pub mod Lent
+pub mod Ledger
 pub mod Compute
 pub mod Script
-pub mod Ledger
 pub mod Cases

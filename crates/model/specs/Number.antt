@@ -36,3 +36,8 @@ maybeBuffer n = cond (eqb n 0) mBuffer.the-variants.Nothing (mBuffer.the-variant
 
 unfoldable pub maybePool : ℕ → MaybePool
 maybePool n = cond (eqb n 0) mPool.the-variants.Nothing (mPool.the-variants.Pool (record { 0 = n }))
+
+-- what has to unfold for the definitions of this file to compute
+unfoldable pub computeNumber : Unit {0}
+unfolding wordNumber fieldNumber maybeTask maybeMutex maybeBuffer maybePool
+computeNumber = tt

@@ -142,7 +142,7 @@ fieldsOf (GetMpf pool timeout) = pool ∷ timeout ∷ []
 fieldsOf (RelMpf pool block) = pool ∷ block ∷ []
 fieldsOf Tick = []
 
--- "Fields are signed 32-bit": numbers that all fit, and a call whose fields do. Every record that is read has such a call.
+-- "Fields are signed 32-bit": numbers that all fit, and a call whose fields do
 abbrev pub Fit : List ℤ → Type 0
 Fit [] = Unit {0}
 Fit (z ∷ zs) = (mag z < 2 ^ 31) × Fit zs

@@ -39,7 +39,8 @@ pub const LOG_BYTES: usize = 512;
 
 pub const SCRIPT_BYTES: usize = 16384;
 
-// The most milliseconds that a timeout can ask for, and the word of the state for a wait without end: the largest word.
+// The largest signed number of 32 bits, the most milliseconds that a timeout can ask for; and the word of the state for a wait without
+// end, the largest word.
 pub const LONGEST: u32 = 0x7fff_ffff;
 
 pub const LARGEST_WORD: u32 = 0xffff_ffff;

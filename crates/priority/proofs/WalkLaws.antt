@@ -17,7 +17,7 @@ use Rattle.model.specs.Number.{wordNumber, maybeMutex}
 use Rattle.model.specs.declared.number.MaybeMutex as mMutex
 use Rattle.model.proofs.NumberLaws.{Names, NamesNone, numbered-at, numbered-none}
 use Rattle.model.specs.Words.{wordCount, sizes, fields, kernel}
-use Rattle.state.proofs.WordLaws.{sized, size-of}
+use Rattle.state.proofs.WordLaws.{sized, size-of, currents-long}
 use Rattle.state.specs.Words.{Represents}
 use Rattle.model.specs.Field as field
 use Rattle.priority.specs.Walk.{mutexAwaited, passesTo, awaited, raisedKernel}
@@ -30,10 +30,6 @@ unfolding raisedKernel withCurrents withTasks
 stays k v p s = ap (withCurrents k) (sym (stops (awaited k) p (suc tasks) s))
 
 module _ (w : List ℕ) (l : length w ≡ wordCount) where
-  current-length : length (kernel w .tasks .current) ≡ suc tasks
-  unfolding fields sizes
-  current-length = size-of (kernel w) (sized w l) field.current
-
   pub place-length : length (facts (kernel w) .place) ≡ suc tasks
   unfolding fields sizes facts
   place-length = let h : length (kernel w .tasks .place) ≡ suc tasks = size-of (kernel w) (sized w l) field.place in simp length-drop (omega arith)
@@ -85,7 +81,7 @@ pub record RaisedAlone (w x : List ℕ) (v p : ℕ) : Type 0 where
 
 module _ {w x : List ℕ} {v p : ℕ} (alone : RaisedAlone w x v p) where
   task : LessUrgent (kernel w .tasks .current) v p
-  task = record { long = current-length w (alone .size); low = alone .low; high = alone .high; less = alone .less }
+  task = record { long = currents-long w (alone .size); low = alone .low; high = alone .high; less = alone .less }
 
   pub fewer : unvisited p (kernel x .tasks .current) < unvisited p (kernel w .tasks .current)
   unfolding withCurrent withTasks

@@ -5,7 +5,7 @@ use native.Mathlib.Decide.{ℕ-discrete}
 use native.Mathlib.Omega.{arith}
 use mathlib.Core.Path.{_≡_, _∙_, refl, sym, ap}
 use mathlib.Core.Logic.{_≢_, _⊎_, inl, inr}
-use mathlib.Core.Bool.{Bool, true, false, _&&_, _||_, not, false≢true}
+use mathlib.Core.Bool.{Bool, true, false, _&&_, _||_, not, false≢true, and-false}
 use mathlib.Core.List.{List, [], _∷_, _++_, append-nil}
 use lib.ListN.{length, take, length-append}
 use lib.Seq.{getD-set-same, getD-set-other}
@@ -16,7 +16,7 @@ use Rattle.model.specs.Lists.{upTo, zeros, padded, keep, select, member, withou
 use Rattle.model.specs.Facts.{Queue}
 use Rattle.model.specs.Kernel.{Kernel, others, departed, arrived, standsIn, facts, withArrivals, withPlace, withObject, withCurrents}
 use Rattle.model.specs.Act.{arrive}
-use Rattle.model.proofs.ListLaws.{length-select, or-elim, or-left, or-right, without-keeps, without-shorter, length-countFrom, member-countFrom, member-append}
+use Rattle.model.proofs.ListLaws.{length-select, or-elim, or-left, or-right, without-keeps, without-shorter, length-countFrom, member-countFrom, member-append, take-zeros}
 
 -- ---- selecting
 
@@ -34,11 +34,6 @@ module _ (p : ℕ → Bool) where
   select-zeros e (suc n) = rw e (select-zeros e n)
 
 -- zeros behind a list that fits
-take-zeros : (n m : ℕ) → n ≤ m → take n (zeros m) ≡ zeros n
-take-zeros zero m h = refl
-take-zeros (suc n) zero h = absurd (omega arith)
-take-zeros (suc n) (suc m) h = ap (λ (l : List ℕ). 0 ∷ l) (take-zeros n m (omega arith))
-
 take-padded : (n m : ℕ) (xs : List ℕ) → length xs ≤ n → n ≤ m → take n (xs ++ zeros m) ≡ xs ++ zeros (n - length xs)
 take-padded n m [] h k = rw sub-zero (take-zeros n m k)
 take-padded zero m (x ∷ xs) h k = absurd (omega arith)
@@ -233,11 +228,7 @@ module _ (t : ℕ) (low : 1 ≤ t) (high : t ≤ tasks) (ts : List ℕ) (listed 
   other u = not (eqb u 0) && not (eqb u t)
 
   other-t : other t ≡ false
-  other-t = rw (eq-eqb t t refl) (go (not (eqb t 0)))
-    where
-      go : (b : Bool) → b && false ≡ false
-      go true = refl
-      go false = refl
+  other-t = rw (eq-eqb t t refl) (and-false (not (eqb t 0)))
 
   -- the others: none is t or 0, none stands twice
   pub others-few : (u : ℕ) → u ≢ t → occurrences u (others t ts) ≤ 1

@@ -4,7 +4,7 @@ use native.Mathlib.Nat.{sub-self}
 use native.Mathlib.Numerals.{add-one}
 use native.Mathlib.Omega.{arith}
 use mathlib.Core.Path.{_≡_, _∙_, refl, sym, ap, ap₂}
-use mathlib.Core.Bool.{Bool, true, false, _&&_, not}
+use mathlib.Core.Bool.{Bool, true, false, _&&_, not, and-false}
 use mathlib.Core.List.{List, [], _∷_, _++_, append-nil, append-assoc}
 use lib.Dec.{eqb}
 use borrow.Author.Tests.{eq-eqb, ne-eqb}
@@ -28,11 +28,7 @@ other-none : (t u : ℕ) → u ≡ 0 → other t u ≡ false
 other-none t u e = rw (eq-eqb u 0 e)
 
 other-itself : (t u : ℕ) → u ≡ t → other t u ≡ false
-other-itself t u e = rw (eq-eqb u t e) (go (not (eqb u 0)))
-  where
-    go : (b : Bool) → b && false ≡ false
-    go true = refl
-    go false = refl
+other-itself t u e = rw (eq-eqb u t e) (and-false (not (eqb u 0)))
 
 same-arrivals : (k : Kernel) → withArrivals k (k .arrivals) ≡ k
 unfolding withArrivals
@@ -244,9 +240,9 @@ departs t w v u j g r =
     a : List ℕ
     a = kernel w .arrivals
 
-pub rejoins : (t : ℕ) (w v u x : List ℕ) (j n : ℕ) → Gathered t w v j → n ≡ t → Represents u (withArrival (kernel v) j n) → Represents x (clearedFrom (j + 1) (kernel u))
+pub arrives-last : (t : ℕ) (w v u x : List ℕ) (j n : ℕ) → Gathered t w v j → n ≡ t → Represents u (withArrival (kernel v) j n) → Represents x (clearedFrom (j + 1) (kernel u))
     → Represents x (withArrivals (kernel w) (arrived t (kernel w .arrivals)))
-rejoins t w v u x j n g e s r =
+arrives-last t w v u x j n g e s r =
     record {
       length = r .length;
       kernel =

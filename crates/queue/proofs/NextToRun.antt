@@ -22,10 +22,10 @@ pub record Found (p : ℕ → Bool) (ts : List ℕ) (t : ℕ) : Type 0 where
   pub passes : p t ≡ true
   pub earlier : (u : ℕ) → member u before ≡ true → p u ≡ false
 
-abbrev pub Outcome : (ℕ → Bool) → List ℕ → ℕ → Type 0
-Outcome p ts t = (((u : ℕ) → member u ts ≡ true → p u ≡ false) × (t ≡ 0)) ⊎ Found p ts t
+abbrev pub SearchOutcome : (ℕ → Bool) → List ℕ → ℕ → Type 0
+SearchOutcome p ts t = (((u : ℕ) → member u ts ≡ true → p u ≡ false) × (t ≡ 0)) ⊎ Found p ts t
 
-pub firstWhere-finds : (p : ℕ → Bool) (ts : List ℕ) → Outcome p ts (firstWhere p ts)
+pub firstWhere-finds : (p : ℕ → Bool) (ts : List ℕ) → SearchOutcome p ts (firstWhere p ts)
 firstWhere-finds p [] = inl ((λ u q. absurd (false≢true q)), refl)
 firstWhere-finds p (t ∷ ts) = go (p t) refl (firstWhere-finds p ts)
   where
@@ -33,7 +33,7 @@ firstWhere-finds p (t ∷ ts) = go (p t) refl (firstWhere-finds p ts)
     none e us n u (inl q) = rw (eqb-true u t q) e
     none e us n u (inr q) = n u q
 
-    later : (r : ℕ) → p t ≡ false → Outcome p ts r → Outcome p (t ∷ ts) r
+    later : (r : ℕ) → p t ≡ false → SearchOutcome p ts r → SearchOutcome p (t ∷ ts) r
     later r e (inl n) = inl ((λ u q. none e ts (n .0) u (or-elim (eqb u t) (member u ts) q)), n .1)
     later r e (inr f) =
         inr
@@ -45,7 +45,7 @@ firstWhere-finds p (t ∷ ts) = go (p t) refl (firstWhere-finds p ts)
           earlier = λ u q. none e (f .before) (f .earlier) u (or-elim (eqb u t) (member u (f .before)) q);
         })
 
-    go : (b : Bool) → p t ≡ b → Outcome p ts (firstWhere p ts) → Outcome p (t ∷ ts) (firstWhere p (t ∷ ts))
+    go : (b : Bool) → p t ≡ b → SearchOutcome p ts (firstWhere p ts) → SearchOutcome p (t ∷ ts) (firstWhere p (t ∷ ts))
     go true e rest = rw (e, firstWhere) (inr (record { before = []; behind = ts; split = refl; passes = e; earlier = λ u q. absurd (false≢true q) }))
     go false e rest = rw (e, firstWhere) (later (firstWhere p ts) e rest)
 
@@ -94,7 +94,7 @@ module _ (current ts : List ℕ) (there : (u : ℕ) → member u ts ≡ true →
       hit : Found (λ u. eqb (current ! u) p) ts found → found ≢ 0
       hit f = there found (subst (λ (l : List ℕ). member found l ≡ true) (sym (f .split)) (member-middle found (f .before) (f .behind)))
 
-      go : Outcome (λ u. eqb (current ! u) p) ts found
+      go : SearchOutcome (λ u. eqb (current ! u) p) ts found
           → (((u : ℕ) → member u ts ≡ true → suc p ≤ current ! u) → ((u : ℕ) → member u ts ≡ true → current ! u < suc p + n)
           → First current ts (searchReady current ts (countFrom (suc p) n)))
           → First current ts (searchReady current ts (countFrom p (suc n)))

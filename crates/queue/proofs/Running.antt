@@ -17,7 +17,7 @@ use Rattle.model.specs.Valid.{From}
 use Rattle.model.proofs.ListLaws.{member-middle}
 use Rattle.queue.proofs.ArrivalLaws.{member-select}
 use Rattle.queue.proofs.Standing.{stands-task}
-use Rattle.queue.proofs.NextToRun.{Outcome, firstWhere-finds, search-none, search-hit}
+use Rattle.queue.proofs.NextToRun.{SearchOutcome, firstWhere-finds, search-none, search-hit}
 
 -- a search finds nobody, or one of those that it looks through
 Somebody : List ℕ → ℕ → Type 0
@@ -31,11 +31,11 @@ search-somebody current ts (p ∷ ps) = go (ℕ-discrete found 0) (firstWhere-fi
     found : ℕ
     found = firstWhere (λ u. eqb (current ! u) p) ts
 
-    there : found ≢ 0 → Outcome (λ u. eqb (current ! u) p) ts found → member found ts ≡ true
+    there : found ≢ 0 → SearchOutcome (λ u. eqb (current ! u) p) ts found → member found ts ≡ true
     there h (inl n) = absurd (h (n .1))
     there h (inr f) = subst (λ (l : List ℕ). member found l ≡ true) (sym (f .split)) (member-middle found (f .before) (f .behind))
 
-    go : Dec (found ≡ 0) → Outcome (λ u. eqb (current ! u) p) ts found → Somebody ts (searchReady current ts ps) → Somebody ts (searchReady current ts (p ∷ ps))
+    go : Dec (found ≡ 0) → SearchOutcome (λ u. eqb (current ! u) p) ts found → Somebody ts (searchReady current ts ps) → Somebody ts (searchReady current ts (p ∷ ps))
     go (yes e) o rest = rw (search-none current ts p ps e) rest
     go (no n) o rest = rw (search-hit current ts p ps found n refl) (inr (there n o))
 

@@ -3,7 +3,7 @@ use Prim.Native.Nat.{ℕ, suc, _%_, _≤_, _<_}
 use native.Mathlib.Omega.{arith}
 use mathlib.Core.Path.{_≡_, _∙_, refl, sym, ap}
 use mathlib.Core.Logic.{_≢_, inl, inr}
-use mathlib.Core.Bool.{Bool, true, false, _&&_, false≢true}
+use mathlib.Core.Bool.{Bool, true, false, _&&_, false≢true, and-false}
 use mathlib.Core.List.{List}
 use lib.ListN.{length}
 use lib.Dec.{eqb, leb, ltb}
@@ -34,11 +34,7 @@ module _ {A : Type 0} (kind : Kind A) (xs : List ℕ) (u : ℕ) {found : A} (mad
 module _ (k : Kernel) (place object u : ℕ) where
   within-none : NamesNone tasks u → within 1 tasks u ≡ false
   within-none (inl e) = rw e
-  within-none (inr h) = rw (lt-leb u tasks h) (go (leb 1 u))
-    where
-      go : (b : Bool) → b && false ≡ false
-      go true = refl
-      go false = refl
+  within-none (inr h) = rw (lt-leb u tasks h) (and-false (leb 1 u))
 
   pub stands-nowhere : NamesNone tasks u → false ≡ standsIn k (queue place object) u
   unfolding standsIn

@@ -63,7 +63,7 @@ pub fn depart(state: &mut [u32], t: TaskNumber)
 }
 
 // The task becomes the last to have arrived.
-pub fn rejoin(state: &mut [u32], t: TaskNumber)
+pub fn arrive_last(state: &mut [u32], t: TaskNumber)
     requires { ⌜ length (now state) ≡ wordCount ⌝ }
     ensures { λ r. ⌜ Represents (now (state .exit)) (withArrivals (kernel (now (state .entry))) (arrived (t .0) (kernel (now (state .entry)) .arrivals))) ⌝ }
 {
@@ -79,5 +79,5 @@ pub fn arrive(state: &mut [u32], t: TaskNumber, place: u32, object: u32)
 {
     state::task::set_place(state, t, place);
     state::task::set_object(state, t, object);
-    rejoin(state, t);
+    arrive_last(state, t);
 }

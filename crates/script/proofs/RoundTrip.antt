@@ -10,6 +10,7 @@ use lib.Seq.{take-at, drop-at, take-add, length-take-le, getD-drop}
 use lib.Dec.{lit<}
 use lib.IntN.{ℤ, pos, negsuc}
 use lib.Signed.{mag}
+use Rattle.model.proofs.NumberLaws.{number4-bytes4}
 use Rattle.model.specs.declared.call.Call.{Call}
 use Rattle.model.specs.declared.call.Cursor.{Cursor}
 use Rattle.model.specs.declared.call.Read.the-variants.{Record}
@@ -33,17 +34,6 @@ Bytes bytes = (i : ℕ) → bytes ! i < 256
 bits-fit : (z : ℤ) → mag z < 2 ^ 31 → bits z < 2 ^ 32
 bits-fit (pos n) h = omega arith
 bits-fit (negsuc n) h = omega arith
-
-number-bytes : (n : ℕ) → n < 2 ^ 32 → number4 (n % 256) (n / 256 % 256) (n / 65536 % 256) (n / 16777216 % 256) ≡ n
-number-bytes n h =
-    let e₂ : n / 256 / 256 ≡ n / 65536 = div-div-eq-div-mul n 256 256 in
-    let e₃ : n / 65536 / 256 ≡ n / 16777216 = div-div-eq-div-mul n 65536 256 in
-    let top : n / 16777216 < 256 = omega arith in
-    let d₀ : n % 256 + n / 256 * 256 ≡ n = mod-add-div' n 256 in
-    let d₁ : n / 256 % 256 + n / 256 / 256 * 256 ≡ n / 256 = mod-add-div' (n / 256) 256 in
-    let d₂ : n / 65536 % 256 + n / 65536 / 256 * 256 ≡ n / 65536 = mod-add-div' (n / 65536) 256 in
-    let d₃ : n / 16777216 % 256 ≡ n / 16777216 = mod-eq-of-lt top in
-    omega arith
 
 -- a digit and what is above it
 digit : (x q : ℕ) → x < 256 → ((x + q * 256) % 256 ≡ x) × ((x + q * 256) / 256 ≡ q)
@@ -69,7 +59,7 @@ bytes-number a b c d ha hb hc hd =
 
 pub code-reads : (z : ℤ) → mag z < 2 ^ 31 → (rest : List ℕ) → field (codeBytes z ++ rest) 0 ≡ z
 unfolding field
-code-reads z h rest = ap signed (number-bytes (bits z) (bits-fit z h)) ∙ signed-bits z h
+code-reads z h rest = ap signed (number4-bytes4 (bits z) (bits-fit z h)) ∙ signed-bits z h
 
 pub field-writes : (a b c d : ℕ) (rest : List ℕ) → a < 256 → b < 256 → c < 256 → d < 256
     → codeBytes (field (a ∷ b ∷ c ∷ d ∷ rest) 0) ≡ a ∷ b ∷ c ∷ d ∷ []

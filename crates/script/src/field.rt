@@ -1,18 +1,20 @@
 // Fields: signed numbers of 32 bits, the least byte first.
 use model::bytes::byte;
 use model::bytes::number4;
+use model::sizes::LARGEST_WORD;
+use model::sizes::LONGEST;
 ghost use mathlib.Core.Path.{_≡_};
 ghost use Rattle.model.specs.Code.{signed, bits, bytes4, codeBytes};
 ghost use Rattle.model.specs.Record;
 
-// 32 bits as a signed number: from 2^31 on they stand for one below zero.
+// 32 bits as a signed number: above the largest that is signed they stand for one below zero.
 fn signed_number(n: u32) -> i32
     ensures { λ r. ⌜ r ≡ signed n ⌝ }
 {
-    if n < 0x8000_0000 {
+    if n <= LONGEST {
         n as i32
     } else {
-        -1 - (0xffff_ffff - n) as i32
+        -1 - (LARGEST_WORD - n) as i32
     }
 }
 
@@ -32,12 +34,15 @@ pub fn field(body: &[u8], i: usize) -> i32
     signed_number(number4(low, second, third, high))
 }
 
+// The bits of -1: all of a word.
+const ALL_BITS: usize = LARGEST_WORD as usize;
+
 // The bits of a signed number.
 fn bits_of(z: i32) -> usize
     ensures { λ r. ⌜ r ≡ bits z ⌝ }
 {
     if z < 0 {
-        0xffff_ffff - (-1 - z) as usize
+        ALL_BITS - (-1 - z) as usize
     } else {
         z as usize
     }

@@ -4,3 +4,4 @@ pub mod WordLaws
 pub mod Zero
 pub mod Currents
 pub mod FreshLaws
+pub mod LentLaws

@@ -5,12 +5,12 @@ use mathlib.Core.Path.{sym}
 use lib.ListN.{take, length-take}
 use lib.Seq.{getD-take}
 use borrow.Author.Needs.{needs}
-use Rattle.message.proofs.Stores.{Left, left-all, left-turn, left-none, sets-out}
+use Rattle.message.proofs.Stores.{LeftToStore, left-all, left-turn, left-none, sets-out}
 use Rattle.message.proofs.copy.copy_in.Statement.{statement}
 use Rattle.message.proofs.copy.copy_in.Tie as tie
 
 abbrev Inv-loop : tie.InvT-loop
-Inv-loop r₀ at m n count i₀ r i = (i ≤ count) × Left (take n m) at r₀ r i
+Inv-loop r₀ at m n count i₀ r i = (i ≤ count) × LeftToStore (take n m) at r₀ r i
 
 abbrev μ-loop : tie.MeasureT-loop
 μ-loop r₀ at m n count i₀ r i = count - i

@@ -5,12 +5,12 @@ use mathlib.Core.Path.{sym}
 use lib.ListN.{length-replicate, getD-replicate}
 use borrow.Author.Needs.{needs}
 use Rattle.model.specs.Lists.{zeros}
-use Rattle.message.proofs.Stores.{Left, left-all, left-turn, left-none, sets-out}
+use Rattle.message.proofs.Stores.{LeftToStore, left-all, left-turn, left-none, sets-out}
 use Rattle.message.proofs.copy.fill_zero.Statement.{statement}
 use Rattle.message.proofs.copy.fill_zero.Tie as tie
 
 abbrev Inv-loop : tie.InvT-loop
-Inv-loop r₀ at n count i₀ r i = (i ≤ count) × Left (zeros n) at r₀ r i
+Inv-loop r₀ at n count i₀ r i = (i ≤ count) × LeftToStore (zeros n) at r₀ r i
 
 abbrev μ-loop : tie.MeasureT-loop
 μ-loop r₀ at n count i₀ r i = count - i

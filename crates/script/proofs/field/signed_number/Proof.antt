@@ -1,4 +1,6 @@
 -- `signed_number` meets its contract: the upper half of the bits counts down from -1. Assumes nothing.
+use Prim.Native.Nat.{_^_, _≤_, _<_}
+use native.Mathlib.Omega.{arith}
 use mathlib.Core.Path.{_∙_, sym}
 use mir.Syntax.{w32}
 use mir.Facts.{toZ-pos, toZ-ofZ}
@@ -20,12 +22,13 @@ sub-result-2 : tie.Need-sub-result-2
 sub-result-2 c = rw (toZ-pos w32 (cast-result-2 c .sfits), less-than-minus-one) (record { sfits = cast-result-2 c .sfits })
 
 returns : tie.Need-returns
-returns c = toZ-pos w32 (c .if1 .taken) ∙ sym (signed-low _ (c .if1 .taken))
+returns c = let low : c .before .args .n < 2 ^ 31 = omega (arith, c .if1 .taken) in toZ-pos w32 low ∙ sym (signed-low _ low)
 
 returns-2 : tie.Need-returns-2
 returns-2 c =
+    let high : 2 ^ 31 ≤ c .before .args .n = omega (arith, c .if1 .left) in
     toZ-ofZ (sub-result-2 c)
-    ∙ rw (toZ-pos w32 (cast-result-2 c .sfits), less-than-minus-one) (sym (signed-high (c .before .args .n) (c .if1 .left) (c .before .fits .n .fits)))
+    ∙ rw (toZ-pos w32 (cast-result-2 c .sfits), less-than-minus-one) (sym (signed-high (c .before .args .n) high (c .before .fits .n .fits)))
 
 pub signed-number-spec : {M : Type 1} → statement M
 signed-number-spec =
