@@ -5,14 +5,14 @@ use native.Mathlib.Omega.{arith}
 use mathlib.Core.Path.{_∙_, sym}
 use lib.ListN.{length}
 use borrow.Author.Needs.{needs}
-use Rattle.message.proofs.Stores.{Left, left-all, left-turn, left-none, sets-whole}
+use Rattle.message.proofs.Stores.{LeftToStore, left-all, left-turn, left-none, sets-whole}
 use Rattle.verdicts.specs.Words.{wordsOf}
 use Rattle.verdicts.proofs.WordLaws.{length-wordsOf, wordsOf-entry}
 use Rattle.verdicts.proofs.words.fill.Statement.{statement}
 use Rattle.verdicts.proofs.words.fill.Tie as tie
 
 abbrev Inv-loop : tie.InvT-loop
-Inv-loop words₀ bytes i₀ words i = (i ≤ length words₀) × Left (wordsOf (length words₀) bytes) 0 words₀ words i
+Inv-loop words₀ bytes i₀ words i = (i ≤ length words₀) × LeftToStore (wordsOf (length words₀) bytes) 0 words₀ words i
 
 abbrev μ-loop : tie.MeasureT-loop
 μ-loop words₀ bytes i₀ words i = length words₀ - i
