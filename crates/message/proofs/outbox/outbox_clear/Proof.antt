@@ -9,7 +9,9 @@ use Rattle.message.proofs.outbox.outbox_clear.Tie as tie
 
 returns : tie.Need-returns
 returns c =
-    outbox-back (c .before .before .before .before .before .before .args .outbox .now) (c .before .before .before .before .outbox-part .ensures) [] (rw zeros-padded at (c .before .before .clear .ensures))
+    let start = c .before .before .before .before .before .before in
+    let at-outbox-part = c .before .before .before .before in
+    outbox-back (start .args .outbox .now) (at-outbox-part .outbox-part .ensures) [] (rw zeros-padded at (c .before .before .clear .ensures))
 
 pub outbox-clear-spec : {M : Type 1} → statement M
 outbox-clear-spec =

@@ -7,8 +7,9 @@ use Rattle.message.proofs.outbox.outbox_put.Tie as tie
 
 returns : tie.Need-returns
 returns c =
+    let at-outbox-part = c .before .before .before .before in
     let a = c .before .before .before .before .before .before .before .args in
-    outbox-back (a .outbox .now) (c .before .before .before .before .outbox-part .ensures) (take (a .n) (a .m .now)) (c .before .before .fill .ensures)
+    outbox-back (a .outbox .now) (at-outbox-part .outbox-part .ensures) (take (a .n) (a .m .now)) (c .before .before .fill .ensures)
 
 pub outbox-put-spec : {M : Type 1} → statement M
 outbox-put-spec =

@@ -9,10 +9,11 @@ use Rattle.message.proofs.region.oldest.Tie as tie
 
 returns : tie.Need-returns
 returns c =
+    let start = c .before .before .before .before .before in
     let k = c .before .least2 .result in
     let s = c .before .before .before .least .result in
     let e : s + k - s ≡ k = omega arith in
-    rw e (oldest-shown (c .before .before .before .before .before .args .r .now) {a = s} {k = k} (cc) (cc))
+    rw e (oldest-shown (start .args .r .now) {a = s} {k = k} (cc) (cc))
 
 pub oldest-spec : {M : Type 1} → statement M
 oldest-spec =

@@ -6,7 +6,9 @@ use Rattle.message.proofs.region.remove.Statement.{statement}
 use Rattle.message.proofs.region.remove.Tie as tie
 
 returns : tie.Need-returns
-returns c = (cc) ∙ removed-sets (c .before .before .before .before .before .before .before .before .before .before .before .before .before .args .r .now)
+returns c =
+    let start = c .before .before .before .before .before .before .before .before .before .before .before .before .before in
+    (cc) ∙ removed-sets (start .args .r .now)
 
 pub remove-spec : {M : Type 1} → statement M
 remove-spec =

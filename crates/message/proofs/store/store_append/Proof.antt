@@ -9,9 +9,10 @@ use Rattle.message.proofs.store.store_append.Tie as tie
 
 returns : tie.Need-returns
 returns c =
+    let at-region-part = c .before .before .before .before in
     let a = c .before .before .before .before .before .before .before .args in
     let m = take (a .n) (a .m .now) in
-    region-back (a .store .now) (c .before .before .before .before .region-part .ensures) (λ r. appended r (a .used) m) (λ r. length-appended r (a .used) m) (c .before .before .append .ensures)
+    region-back (a .store .now) (at-region-part .region-part .ensures) (λ r. appended r (a .used) m) (λ r. length-appended r (a .used) m) (c .before .before .append .ensures)
 
 pub store-append-spec : {M : Type 1} → statement M
 store-append-spec =

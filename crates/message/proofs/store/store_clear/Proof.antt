@@ -6,7 +6,9 @@ use Rattle.message.proofs.store.store_clear.Tie as tie
 
 returns : tie.Need-returns
 returns c =
-    region-cleared (c .before .before .before .before .before .before .args .store .now) (c .before .before .before .before .region-part .ensures) (c .before .before .clear .ensures)
+    let start = c .before .before .before .before .before .before in
+    let at-region-part = c .before .before .before .before in
+    region-cleared (start .args .store .now) (at-region-part .region-part .ensures) (c .before .before .clear .ensures)
 
 pub store-clear-spec : {M : Type 1} → statement M
 store-clear-spec =

@@ -8,7 +8,9 @@ use Rattle.message.proofs.store.store_remove.Tie as tie
 
 returns : tie.Need-returns
 returns c =
-    region-back (c .before .before .before .before .before .before .args .store .now) (c .before .before .before .before .region-part .ensures) removed length-removed (c .before .before .remove .ensures)
+    let start = c .before .before .before .before .before .before in
+    let at-region-part = c .before .before .before .before in
+    region-back (start .args .store .now) (at-region-part .region-part .ensures) removed length-removed (c .before .before .remove .ensures)
 
 pub store-remove-spec : {M : Type 1} → statement M
 store-remove-spec =

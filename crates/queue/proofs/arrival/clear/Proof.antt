@@ -24,7 +24,7 @@ loop-less : tie.Need-loop-less Inv-loop μ-loop
 loop-less c = omega arith
 
 loop-again : tie.Need-loop-again Inv-loop μ-loop
-loop-again c = clear-more _ _ _ _ _ (c .before .before .before .before .loop-test .taken) (c .before .before .before .before .before .loop .inv) (c .before .before .set-task .ensures)
+loop-again c = search clear-more
 
 same-length : tie.Need-same-length Inv-loop μ-loop
 same-length c = let g = c .before .loop .inv in g .state .length ∙ sym (g .start)

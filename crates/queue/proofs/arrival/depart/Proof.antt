@@ -7,4 +7,4 @@ use Rattle.queue.proofs.arrival.depart.Tie as tie
 pub depart-spec : {M : Type 1} → statement M
 depart-spec =
     tie.close
-    (tie.spec (λ c κs. search needs) (λ c κs. search needs) (λ c. search needs) λ c. departs _ _ _ _ _ (c .before .before .before .before .before .before .gather .ensures) (c .before .before .clear .ensures))
+    (tie.spec (λ c κs. search needs) (λ c κs. search needs) (λ c. search needs) λ c. search departs)

@@ -25,7 +25,7 @@ loop-less : tie.Need-loop-less Inv-loop μ-loop
 loop-less c = omega arith
 
 loop-again : tie.Need-loop-again Inv-loop μ-loop
-loop-again c = gather-more _ _ _ _ _ _ _ (c .before .before .before .before .loop-test .taken) (c .before .before .before .before .before .loop .inv) (c .before .before .keep .ensures)
+loop-again c = search gather-more
 
 same-length : tie.Need-same-length Inv-loop μ-loop
 same-length c = let g = c .before .loop .inv in g .state .length ∙ sym (g .start)

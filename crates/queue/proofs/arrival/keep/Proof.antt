@@ -6,11 +6,14 @@ use Rattle.queue.proofs.arrival.keep.Statement.{statement}
 use Rattle.queue.proofs.arrival.keep.Tie as tie
 
 returns : tie.Need-returns
-returns c = kept-none _ _ _ _ (c .before .before .before .before .pre .0) _ (c .before .task .ensures) (c .if1 .taken)
+returns c =
+    let start = c .before .before .before .before in
+    kept-none _ _ _ _ (start .pre .0) _ (c .before .task .ensures) (c .if1 .taken)
 
 returns-2 : tie.Need-returns-2
 returns-2 c =
-    kept-itself _ _ _ _ (c .before .before .before .before .before .before .pre .0) _ (c .before .before .before .task .ensures)
+    let start = c .before .before .before .before .before .before in
+    kept-itself _ _ _ _ (start .pre .0) _ (c .before .before .before .task .ensures)
     (c .if2 .taken ∙ c .before .word .ensures)
 
 returns-3 : tie.Need-returns-3

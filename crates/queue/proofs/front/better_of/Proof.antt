@@ -15,10 +15,14 @@ returns : tie.Need-returns
 returns c = better-none (now-current (c .before .before .args .state .now)) (c .before .before .args .best) (c .before .before .args .u) (c .if1 .taken)
 
 returns-2 : tie.Need-returns-2
-returns-2 c = better-yes (now-current (c .before .before .before .before .before .args .state .now)) (c .before .before .before .before .before .args .best) (c .before .before .before .before .before .args .u) (c .before .before .before .if1 .left) _ _ (c .before .before .current .ensures) (c .before .current2 .ensures) (c .if2 .taken)
+returns-2 c =
+    let start = c .before .before .before .before .before in
+    better-yes (now-current (start .args .state .now)) (start .args .best) (start .args .u) (c .before .before .before .if1 .left) _ _ (c .before .before .current .ensures) (c .before .current2 .ensures) (c .if2 .taken)
 
 returns-3 : tie.Need-returns-3
-returns-3 c = better-no (now-current (c .before .before .before .before .before .args .state .now)) (c .before .before .before .before .before .args .best) (c .before .before .before .before .before .args .u) (c .before .before .before .if1 .left) _ _ (c .before .before .current .ensures) (c .before .current2 .ensures) (c .if2 .left)
+returns-3 c =
+    let start = c .before .before .before .before .before in
+    better-no (now-current (start .args .state .now)) (start .args .best) (start .args .u) (c .before .before .before .if1 .left) _ _ (c .before .before .current .ensures) (c .before .current2 .ensures) (c .if2 .left)
 
 pub better-of-spec : {M : Type 1} → statement M
 better-of-spec = tie.close (tie.spec returns (λ c κs. search needs) (λ c κs. search needs) returns-2 returns-3)

@@ -18,7 +18,9 @@ returns-3 c = by-sending _ _ _ (c .before .before .before .if1 .left) (c .before
 
 returns-4 : tie.Need-returns-4
 unfolding facts
-returns-4 c = by-getting _ _ _ (c .before .before .before .before .if1 .left) (c .before .before .before .if2 .left) (c .before .before .if3 .left) _ (c .before .if4 .taken) (c .pool-attribute .ensures)
+returns-4 c =
+    let at-if1 = c .before .before .before .before in
+    by-getting _ _ _ (at-if1 .if1 .left) (c .before .before .before .if2 .left) (c .before .before .if3 .left) _ (c .before .if4 .taken) (c .pool-attribute .ensures)
 
 returns-5 : tie.Need-returns-5
 returns-5 c = by-arrival _ _ _ (c .before .before .before .if1 .left) (c .before .before .if2 .left) (c .before .if3 .left) (c .if4 .left)

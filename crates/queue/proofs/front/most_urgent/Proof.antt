@@ -34,6 +34,7 @@ loop-less c = omega arith
 
 loop-again : tie.Need-loop-again Inv-loop μ-loop
 loop-again c =
+    let start = c .before .before .before .before .before in
     let a = c .before .before .before .before .before .args in
     let k = kernel (a .state .now) in
     let p = standsIn k (queue (a .place) (a .object)) in
@@ -41,7 +42,7 @@ loop-again c =
     let l = c .before .before .before .loop in
     let e : c .best-with .result ≡ cond (p (k .arrivals ! l .i)) (better cur (l .best) (k .arrivals ! l .i)) (l .best) =
     c .best-with .ensures ∙ ap (λ (u : ℕ). cond (p u) (better cur (l .best) u) (l .best)) (c .before .task .ensures) in (
-      l .inv .0 ∙ best-more p (k .arrivals) (l .i) cur (l .best) (omega (arith, arrivals-long (a .state .now) (c .before .before .before .before .before .pre)))
+      l .inv .0 ∙ best-more p (k .arrivals) (l .i) cur (l .best) (omega (arith, arrivals-long (a .state .now) (start .pre)))
           ∙ ap (λ (n : ℕ). left (a .state .now) (a .place) (a .object) n (l .i + 1)) (sym e),
       omega arith,
     )

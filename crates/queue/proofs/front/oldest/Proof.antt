@@ -29,21 +29,25 @@ loop-holds c = (refl, omega arith)
 
 returns : tie.Need-returns Inv-loop μ-loop
 returns c =
+    let start = c .before .before .before .before .before .before in
+    let head = c .before .before .before .before in
     let a = c .before .before .before .before .before .before .args in
     let k = kernel (a .state .now) in
     let e = c .before .before .task .ensures in
     let s = ap (standsIn k (queue (a .place) (a .object))) (sym e) ∙ sym (c .before .stands-in .ensures) ∙ c .if1 .taken in
-    e ∙ sym (c .before .before .before .before .loop .inv .0 ∙ first-hit (standsIn k (queue (a .place) (a .object))) (k .arrivals) (c .before .before .before .before .loop .i) (omega (arith, arrivals-long (a .state .now) (c .before .before .before .before .before .before .pre))) s)
+    e ∙ sym (head .loop .inv .0 ∙ first-hit (standsIn k (queue (a .place) (a .object))) (k .arrivals) (head .loop .i) (omega (arith, arrivals-long (a .state .now) (start .pre))) s)
 
 loop-less : tie.Need-loop-less Inv-loop μ-loop
 loop-less c = omega arith
 
 loop-again : tie.Need-loop-again Inv-loop μ-loop
 loop-again c =
+    let start = c .before .before .before .before .before .before in
+    let head = c .before .before .before .before in
     let a = c .before .before .before .before .before .before .args in
     let k = kernel (a .state .now) in
     let s = ap (standsIn k (queue (a .place) (a .object))) (sym (c .before .before .task .ensures)) ∙ sym (c .before .stands-in .ensures) ∙ c .if1 .left in
-    (c .before .before .before .before .loop .inv .0 ∙ first-miss (standsIn k (queue (a .place) (a .object))) (k .arrivals) (c .before .before .before .before .loop .i) (omega (arith, arrivals-long (a .state .now) (c .before .before .before .before .before .before .pre))) s, omega arith)
+    (head .loop .inv .0 ∙ first-miss (standsIn k (queue (a .place) (a .object))) (k .arrivals) (head .loop .i) (omega (arith, arrivals-long (a .state .now) (start .pre))) s, omega arith)
 
 returns-2 : tie.Need-returns-2 Inv-loop μ-loop
 returns-2 c =

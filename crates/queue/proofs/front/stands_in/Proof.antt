@@ -10,10 +10,15 @@ returns : tie.Need-returns
 returns c = stands-nowhere _ _ _ _ (task-none _ (sym (c .before .before .from-word .ensures) ∙ c .enum-told .given .1))
 
 returns-2 : tie.Need-returns-2
-returns-2 c = stands-elsewhere _ _ _ _ _ (task-there _ _ (sym (c .before .before .before .before .before .from-word .ensures) ∙ c .before .before .before .found .given .1)) _ (c .before .place .ensures) (c .if1 .taken)
+returns-2 c =
+    let at-from-word = c .before .before .before .before .before in
+    stands-elsewhere _ _ _ _ _ (task-there _ _ (sym (at-from-word .from-word .ensures) ∙ c .before .before .before .found .given .1)) _ (c .before .place .ensures) (c .if1 .taken)
 
 returns-3 : tie.Need-returns-3
-returns-3 c = stands-there _ _ _ _ _ (task-there _ _ (sym (c .before .before .before .before .before .before .from-word .ensures) ∙ c .before .before .before .before .found .given .1)) _ _ (c .before .before .place .ensures) (c .before .if1 .left) (c .object .ensures)
+returns-3 c =
+    let at-from-word = c .before .before .before .before .before .before in
+    let at-found = c .before .before .before .before in
+    stands-there _ _ _ _ _ (task-there _ _ (sym (at-from-word .from-word .ensures) ∙ at-found .found .given .1)) _ _ (c .before .before .place .ensures) (c .before .if1 .left) (c .object .ensures)
 
 pub stands-in-spec : {M : Type 1} → statement M
 stands-in-spec =

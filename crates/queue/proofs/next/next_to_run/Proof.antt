@@ -46,8 +46,9 @@ returns c = let s = c .before .search .inv in s .0 ∙ search-done _ _ (c .searc
 
 returns-2 : tie.Need-returns-2 Inv-loop μ-loop Inv-search μ-search
 returns-2 c =
+    let at-loop-test = c .before .before .before .before in
     let l = c .before .before .before .before .before .loop .inv in
-    c .from-word .ensures ∙ look-hit _ _ _ (l .1) (c .before .before .before .before .loop-test .taken) _ (c .before .before .before .task .ensures) (sym (c .before .before .ready-at .ensures) ∙ c .before .if1 .taken)
+    c .from-word .ensures ∙ look-hit _ _ _ (l .1) (at-loop-test .loop-test .taken) _ (c .before .before .before .task .ensures) (sym (c .before .before .ready-at .ensures) ∙ c .before .if1 .taken)
 
 pub next-to-run-spec : {M : Type 1} → statement M
 next-to-run-spec =

@@ -7,7 +7,9 @@ use Rattle.queue.proofs.next.ready_at.Statement.{statement}
 use Rattle.queue.proofs.next.ready_at.Tie as tie
 
 returns : tie.Need-returns
-returns c = rw (sym (c .before .before .stands-in .ensures) ∙ c .before .if1 .taken) (ap (λ (n : ℕ). eqb n (c .before .before .before .before .args .p)) (c .current .ensures))
+returns c =
+    let start = c .before .before .before .before in
+    rw (sym (c .before .before .stands-in .ensures) ∙ c .before .if1 .taken) (ap (λ (n : ℕ). eqb n (start .args .p)) (c .current .ensures))
 
 returns-2 : tie.Need-returns-2
 returns-2 c = rw (sym (c .before .stands-in .ensures) ∙ c .if1 .left)

@@ -16,11 +16,15 @@ returns c =
 
 returns-2 : tie.Need-returns-2
 unfolding answerBytes
-returns-2 c = rw (c .before .before .before .before .before .enum-told .given .1) (c .before .before .put .ensures)
+returns-2 c =
+    let at-enum-told = c .before .before .before .before .before in
+    rw (at-enum-told .enum-told .given .1) (c .before .before .put .ensures)
 
 returns-3 : tie.Need-returns-3
 unfolding answerBytes
-returns-3 c = rw (c .before .before .before .before .before .enum-told2 .given .1) (c .before .before .put2 .ensures)
+returns-3 c =
+    let at-enum-told2 = c .before .before .before .before .before in
+    rw (at-enum-told2 .enum-told2 .given .1) (c .before .before .put2 .ensures)
 
 pub log-answer-spec : {M : Type 1} → statement M
 log-answer-spec =

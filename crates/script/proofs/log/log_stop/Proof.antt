@@ -4,7 +4,9 @@ use Rattle.script.proofs.log.log_stop.Statement.{statement}
 use Rattle.script.proofs.log.log_stop.Tie as tie
 
 returns : tie.Need-returns
-returns c = rw (c .before .before .before .before .number-bytes .ensures) at (c .before .before .put-two .ensures)
+returns c =
+    let at-number-bytes = c .before .before .before .before in
+    rw (at-number-bytes .number-bytes .ensures) at (c .before .before .put-two .ensures)
 
 pub log-stop-spec : {M : Type 1} → statement M
 log-stop-spec =

@@ -33,7 +33,9 @@ length-inv : (area area₀ bytes : List ℕ) (at i : ℕ) → area ≡ paste are
 length-inv area area₀ bytes at i e h k = ap length e ∙ length-paste area₀ at bytes i (omega arith) h
 
 add-area : tie.Need-add-area Inv-loop μ-loop
-add-area c = omega (arith, c .before .before .before .before .before .before .before .good)
+add-area c =
+    let start = c .before .before .before .before .before .before .before in
+    omega (arith, start .good)
 
 slice-write-area : tie.Need-slice-write-area Inv-loop μ-loop
 slice-write-area c = let v = c .before .before .loop .inv in omega (arith, length-inv _ _ _ _ _ (v .0) (v .1) (v .2))

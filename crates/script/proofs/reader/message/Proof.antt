@@ -31,13 +31,15 @@ returns-2 c =
 
 add-part-2 : tie.Need-add-part-2
 add-part-2 c =
+    let at-if1 = c .before .before .before .before .before in
     let r = found c in
-    omega (arith, start c .good, c .before .before .before .before .before .if1 .left, r .fields, fields-fit _ (r .row) (r .is), body-short _ (r .row) (r .is))
+    omega (arith, start c .good, at-if1 .if1 .left, r .fields, fields-fit _ (r .row) (r .is), body-short _ (r .row) (r .is))
 
 returns-3 : tie.Need-returns-3
 returns-3 c =
+    let at-if1 = c .before .before .before .before .before .before in
     let a = start (c .before) .args in
-    c .part3 .ensures ∙ message-of-parts (a .script .now) (a .c .at) _ _ (c .before .before .before .before .before .before .if1 .left) (found (c .before))
+    c .part3 .ensures ∙ message-of-parts (a .script .now) (a .c .at) _ _ (at-if1 .if1 .left) (found (c .before))
 
 pub message-spec : {M : Type 1} → statement M
 message-spec =

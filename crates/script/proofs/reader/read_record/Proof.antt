@@ -41,6 +41,7 @@ returns-3 c =
 
 returns-4 : tie.Need-returns-4
 returns-4 c =
+    let at-if2 = c .before .before .before .before .before in
     let x = c .before .before .before .before .before .before in
     let a = start x .args in
     let n = x .before .length .given .0 .0 in
@@ -49,7 +50,7 @@ returns-4 c =
     let g = c .before .before .field2 in
     let h = c .before .field3 in
     let fields = same {a = f .result} {b = g .result} {c = h .result} (record { sfits = f .ok }) (record { sfits = g .ok }) (record { sfits = h .ok }) in
-    whole-at (a .script .now) (a .c .at) n (inside x) (found x) (c .before .before .before .before .before .if2 .left) (a .c .at + 1 + n - (a .c .at + 1)) size (c .call-of .result)
+    whole-at (a .script .now) (a .c .at) n (inside x) (found x) (at-if2 .if2 .left) (a .c .at + 1 + n - (a .c .at + 1)) size (c .call-of .result)
     (c .call-of .ensures ∙ ap (callIn kinds (a .script .now ! a .c .at)) (fields ∙ cc))
 
 pub read-record-spec : {M : Type 1} → statement M

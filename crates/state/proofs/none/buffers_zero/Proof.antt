@@ -13,10 +13,11 @@ use Rattle.state.proofs.none.buffers_zero.Tie as tie
 returns : tie.Need-returns
 unfolding kernel sizes fields fromFields
 returns c =
+    let at-zero = c .before .before .before .before in
     let start = c .before .before .before .before .before .before in
     let w = start .args .state .now in
     let long = size-of (kernel w) (sized w (start .pre)) in
-    rw (c .zero5 .ensures ∙ entry-zero w field.used, c .before .zero4 .ensures ∙ entry-zero w field.maxmsz, c .before .before .zero3 .ensures ∙ entry-zero w field.bufsz, c .before .before .before .zero2 .ensures ∙ entry-zero w field.bufferAttribute, c .before .before .before .before .zero .ensures ∙ entry-zero w field.bufferExists) (told buffers (bufferLists (kernel w)) (long field.bufferExists, (long field.bufferAttribute, (long field.bufsz, (long field.maxmsz, (long field.used, tt))))))
+    rw (c .zero5 .ensures ∙ entry-zero w field.used, c .before .zero4 .ensures ∙ entry-zero w field.maxmsz, c .before .before .zero3 .ensures ∙ entry-zero w field.bufsz, c .before .before .before .zero2 .ensures ∙ entry-zero w field.bufferAttribute, at-zero .zero .ensures ∙ entry-zero w field.bufferExists) (told buffers (bufferLists (kernel w)) (long field.bufferExists, (long field.bufferAttribute, (long field.bufsz, (long field.maxmsz, (long field.used, tt))))))
 
 pub buffers-zero-spec : {M : Type 1} → statement M
 unfolding sizes

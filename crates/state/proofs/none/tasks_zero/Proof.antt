@@ -13,10 +13,13 @@ use Rattle.state.proofs.none.tasks_zero.Tie as tie
 returns : tie.Need-returns
 unfolding kernel sizes fields fromFields
 returns c =
+    let at-zero = c .before .before .before .before .before .before in
+    let at-zero2 = c .before .before .before .before .before in
+    let at-zero3 = c .before .before .before .before in
     let start = c .before .before .before .before .before .before .before .before in
     let w = start .args .state .now in
     let long = size-of (kernel w) (sized w (start .pre)) in
-    rw (c .zero7 .ensures ∙ entry-zero w field.left, c .before .zero6 .ensures ∙ entry-zero w field.current, c .before .before .zero5 .ensures ∙ entry-zero w field.base, c .before .before .before .zero4 .ensures ∙ entry-zero w field.initial, c .before .before .before .before .zero3 .ensures ∙ entry-zero w field.argument, c .before .before .before .before .before .zero2 .ensures ∙ entry-zero w field.object, c .before .before .before .before .before .before .zero .ensures ∙ entry-zero w field.place) (told tasks (taskLists (kernel w)) (long field.place, (long field.object, (long field.argument, (long field.initial, (long field.base, (long field.current, (long field.left, tt))))))))
+    rw (c .zero7 .ensures ∙ entry-zero w field.left, c .before .zero6 .ensures ∙ entry-zero w field.current, c .before .before .zero5 .ensures ∙ entry-zero w field.base, c .before .before .before .zero4 .ensures ∙ entry-zero w field.initial, at-zero3 .zero3 .ensures ∙ entry-zero w field.argument, at-zero2 .zero2 .ensures ∙ entry-zero w field.object, at-zero .zero .ensures ∙ entry-zero w field.place) (told tasks (taskLists (kernel w)) (long field.place, (long field.object, (long field.argument, (long field.initial, (long field.base, (long field.current, (long field.left, tt))))))))
 
 pub tasks-zero-spec : {M : Type 1} → statement M
 unfolding sizes

@@ -27,7 +27,9 @@ loop-again : tie.Need-loop-again Inv-loop μ-loop
 loop-again c = search fill-step
 
 same-length : tie.Need-same-length Inv-loop μ-loop
-same-length c = c .before .loop .inv .state .length ∙ sym (c .before .before .before .before .before .before .before .pre)
+same-length c =
+    let start = c .before .before .before .before .before .before .before in
+    c .before .loop .inv .state .length ∙ sym (start .pre)
 
 returns : tie.Need-returns Inv-loop μ-loop
 returns c = search fill-done
