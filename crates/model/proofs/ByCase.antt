@@ -16,7 +16,7 @@ use Rattle.model.specs.Sizes.{endless, logBytes, scriptBytes}
 use Rattle.model.specs.Lists.{_!_, firstWhere, select}
 use Rattle.model.specs.Code.{E-OK, E-SYS, E-TMOUT}
 use Rattle.model.specs.Facts.{queue, locking, sending, receiving, getting}
-use Rattle.model.specs.Kernel.{Kernel, withHolder, withLeft, withTaken, slot}
+use Rattle.model.specs.Kernel.{Kernel, withCurrents, withHolder, withLeft, withTaken, slot}
 use Rattle.model.specs.World.{World, Lent, Nothing, begun, withKernel, queueFront, recompute, running, withOutbox, Message, Block}
 use Rattle.model.specs.Message.{withOutboxMessage}
 use Rattle.model.specs.Act.{recomputeIf, leaveOutbox, settled, endWait, release, serve, wait, storeMessage}
@@ -54,6 +54,12 @@ module _ (k : Kernel) where
   pub recompute-not : recomputeIf false k ≡ k
   unfolding recomputeIf
   recompute-not = refl
+
+  -- nothing but current priorities
+  pub recompute-only : (b : Bool) → recomputeIf b k ≡ withCurrents k (recomputeIf b k .tasks .current)
+  unfolding recomputeIf recompute withCurrents
+  recompute-only true = refl
+  recompute-only false = refl
 
   module _ (outbox : List ℕ) (t : ℕ) where
     pub leaves-sending : k .tasks .place ! t ≡ sending → leaveOutbox k outbox t ≡ withOutboxMessage t outbox []

@@ -1,6 +1,9 @@
+pub mod Terms
 pub mod ListLaws
 pub mod FlagLaws
 pub mod NumberLaws
 pub mod Table
 pub mod Loops
 pub mod ByCase
+pub mod RefusalLaws
+pub mod Folds

@@ -4,12 +4,12 @@ use native.Mathlib.Decide.{ℕ-discrete}
 use native.Mathlib.Omega.{arith}
 use mathlib.Core.Path.{_≡_, _∙_, refl, sym, ap}
 use mathlib.Core.Logic.{_≢_, _⊎_, inl, inr}
-use mathlib.Core.Bool.{Bool, true, false, _||_, not, false≢true}
+use mathlib.Core.Bool.{Bool, true, false, _||_, not, cond, false≢true}
 use mathlib.Core.List.{List, [], _∷_, _++_, map}
 use lib.ListN.{length, getD, take}
-use lib.Dec.{eqb}
-use borrow.Author.Tests.{eqb-true, eq-eqb}
-use Rattle.model.specs.Lists.{countFrom, member, keep, select, without, zeros}
+use lib.Dec.{eqb, ltb}
+use borrow.Author.Tests.{eqb-true, eq-eqb, ne-eqb, lt-ltb}
+use Rattle.model.specs.Lists.{_!_, countFrom, any, member, keep, select, without, occurrences, zeros}
 
 -- ---- tests
 
@@ -71,7 +71,58 @@ pub member-middle : (u : ℕ) (xs ys : List ℕ) → member u (xs ++ u ∷ ys) �
 member-middle u [] ys = or-left (eqb u u) (member u ys) (eq-eqb u u refl)
 member-middle u (x ∷ xs) ys = or-right (eqb u x) (member u (xs ++ u ∷ ys)) (member-middle u xs ys)
 
--- no more are chosen than there are
+-- a number stands in a list where it is counted there
+pub member-counted : (u : ℕ) (xs : List ℕ) → member u xs ≡ ltb 0 (occurrences u xs)
+member-counted u [] = refl
+member-counted u (x ∷ xs) = go (eqb u x) (member-counted u xs)
+  where
+    go : (b : Bool) → member u xs ≡ ltb 0 (occurrences u xs) → b || member u xs ≡ ltb 0 (length (keep b x (select (eqb u) xs)))
+    go true rest = sym (lt-ltb 0 (length (x ∷ select (eqb u) xs)) (omega arith))
+    go false rest = rest
+
+-- an entry that is not 0 is within the list
+pub entry-inside : (xs : List ℕ) (i : ℕ) → xs ! i ≢ 0 → i < length xs
+entry-inside [] i h = absurd (h refl)
+entry-inside (x ∷ xs) zero h = omega arith
+entry-inside (x ∷ xs) (suc i) h = omega (arith, entry-inside xs i h)
+
+-- the entries of a list stand in it, and nothing else
+pub entry-member : (xs : List ℕ) (i : ℕ) → xs ! i ≢ 0 → member (xs ! i) xs ≡ true
+entry-member [] i h = absurd (h refl)
+entry-member (x ∷ xs) zero h = or-left (eqb x x) _ (eq-eqb x x refl)
+entry-member (x ∷ xs) (suc i) h = or-right (eqb (xs ! i) x) _ (entry-member xs i h)
+
+pub member-entry : (u : ℕ) (xs : List ℕ) → member u xs ≡ true → (i : ℕ) × (xs ! i ≡ u)
+member-entry u [] e = absurd (false≢true e)
+member-entry u (x ∷ xs) e = go (or-elim (eqb u x) _ e) (member-entry u xs)
+  where
+    go : (eqb u x ≡ true) ⊎ (member u xs ≡ true) → (member u xs ≡ true → (i : ℕ) × (xs ! i ≡ u)) → (i : ℕ) × ((x ∷ xs) ! i ≡ u)
+    go (inl q) rest = (0, sym (eqb-true u x q))
+    go (inr q) rest = (suc (rest q .0), rest q .1)
+
+-- a list in which all pass is chosen as it is
+pub select-every : (p : ℕ → Bool) (xs : List ℕ) → ((u : ℕ) → member u xs ≡ true → p u ≡ true) → select p xs ≡ xs
+select-every p [] h = refl
+select-every p (x ∷ xs) h =
+    rw (h x (or-left (eqb x x) _ (eq-eqb x x refl)), select-every p xs (λ u m. h u (or-right (eqb u x) _ m)))
+
+-- two tests choose the same, whichever is asked first
+pub select-swap : (p q : ℕ → Bool) (xs : List ℕ) → select p (select q xs) ≡ select q (select p xs)
+select-swap p q [] = refl
+select-swap p q (x ∷ xs) = go (p x) (q x) refl refl (select-swap p q xs)
+  where
+    go : (b c : Bool) → p x ≡ b → q x ≡ c → select p (select q xs) ≡ select q (select p xs)
+        → select p (keep c x (select q xs)) ≡ select q (keep b x (select p xs))
+    go true true e f rest = rw (e, f, rest)
+    go true false e f rest = rw (f, rest)
+    go false true e f rest = rw (e, rest)
+    go false false e f rest = rest
+
+-- how many are chosen: no more than there are
+pub length-keep : (b : Bool) (x : ℕ) (xs : List ℕ) → length (keep b x xs) ≡ cond b 1 0 + length xs
+length-keep true x xs = omega arith
+length-keep false x xs = omega arith
+
 pub length-select : (p : ℕ → Bool) (xs : List ℕ) → length (select p xs) ≤ length xs
 length-select p [] = omega arith
 length-select p (x ∷ xs) = go (p x) (length-select p xs)
@@ -79,6 +130,10 @@ length-select p (x ∷ xs) = go (p x) (length-select p xs)
     go : (b : Bool) → length (select p xs) ≤ length xs → length (keep b x (select p xs)) ≤ suc (length xs)
     go true h = omega arith
     go false h = omega arith
+
+-- a list without a number that it does not have is the same
+pub without-none : (t : ℕ) (xs : List ℕ) → member t xs ≢ true → without t xs ≡ xs
+without-none t xs h = select-every (λ y. not (eqb t y)) xs (λ u m. rw (ne-eqb t u (λ e. h (rw e m))))
 
 -- a list without one of its numbers: the others stay, and it is shorter
 pub without-keeps : (a z : ℕ) (xs : List ℕ) → z ≢ a → member z xs ≡ true → member z (without a xs) ≡ true
@@ -124,3 +179,22 @@ mapped-at f a (suc n) (suc i) d h = mapped-at f (suc a) n i d (omega arith) ∙ 
 pub map-agree : {A : Type 0} (f g : ℕ → A) (a n : ℕ) → ((x : ℕ) → a ≤ x → x < a + n → f x ≡ g x) → map f (countFrom a n) ≡ map g (countFrom a n)
 map-agree f g a zero h = refl
 map-agree f g a (suc n) h = rw (h a (omega arith) (omega arith), map-agree f g (suc a) n (λ x low high. h x (omega arith) (omega arith)))
+
+-- the same of what two tests choose, if the tests agree, and the functions where the tests hold
+pub select-agree : (p q : ℕ → Bool) (f g : ℕ → ℕ) → ((x : ℕ) → p x ≡ q x) → ((x : ℕ) → p x ≡ true → f x ≡ g x) → (xs : List ℕ)
+    → map f (select p xs) ≡ map g (select q xs)
+select-agree p q f g tests values [] = refl
+select-agree p q f g tests values (x ∷ xs) = rw (← tests x) (go (p x) refl (select-agree p q f g tests values xs))
+  where
+    go : (b : Bool) → p x ≡ b → map f (select p xs) ≡ map g (select q xs) → map f (keep b x (select p xs)) ≡ map g (keep b x (select q xs))
+    go true e rest = rw (values x e, rest)
+    go false e rest = rest
+
+-- some number of a list passes a test
+pub some-passes : (p : ℕ → Bool) (n : ℕ) (xs : List ℕ) → p n ≡ true → member n xs ≡ true → any p xs ≡ true
+some-passes p n [] e m = m
+some-passes p n (x ∷ xs) e m = go (or-elim (eqb n x) (member n xs) m) (some-passes p n xs e)
+  where
+    go : (eqb n x ≡ true) ⊎ (member n xs ≡ true) → (member n xs ≡ true → any p xs ≡ true) → p x || any p xs ≡ true
+    go (inl q) rest = or-left (p x) (any p xs) (rw (← eqb-true n x q) e)
+    go (inr q) rest = or-right (p x) (any p xs) (rest q)

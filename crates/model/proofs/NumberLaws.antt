@@ -7,7 +7,8 @@ use mathlib.Core.Path.{_≡_, _∙_, refl, sym, ap}
 use mathlib.Core.Logic.{_≢_, _⊎_, inl, inr}
 use mathlib.Core.Bool.{Bool, true, false, _||_, cond}
 use mathlib.Core.List.{List, [], _∷_}
-use lib.ListN.{length, List·getD-eq-default}
+use lib.ListN.{length, set, List·getD-eq-default}
+use lib.Seq.{getD-set-same, getD-set-other}
 use lib.Dec.{eqb, ltb}
 use lib.IntN.{ℤ, pos, negsuc}
 use borrow.Author.Tests.{eqb-true, eq-eqb, eqb-false, lt-ltb, le-ltb}
@@ -75,6 +76,20 @@ numbered-at (x ∷ xs) (suc n) h = refl
 pub numbered-none : (last : ℕ) (xs : List ℕ) (u : ℕ) → length xs ≡ suc last → NamesNone last u → numbered xs ! u ≡ 0
 numbered-none last xs u n (inl e) = rw e
 numbered-none last xs u n (inr h) = numbered-at xs u (omega arith) ∙ List·getD-eq-default xs 0 {n = u} (omega arith)
+
+-- it is as long as the list
+pub numbered-long : (last : ℕ) (xs : List ℕ) → length xs ≡ suc last → length (numbered xs) ≡ suc last
+numbered-long last [] e = absurd (omega arith)
+numbered-long last (x ∷ xs) e = e
+
+-- one entry exchanged
+pub numbered-other : (xs : List ℕ) (t v n : ℕ) → n ≢ t → numbered (set xs t v) ! n ≡ numbered xs ! n
+numbered-other xs t v zero d = refl
+numbered-other xs t v (suc n) d =
+    numbered-at (set xs t v) (suc n) (omega arith) ∙ getD-set-other xs t (suc n) v 0 d ∙ sym (numbered-at xs (suc n) (omega arith))
+
+pub numbered-same : (xs : List ℕ) (t v : ℕ) → 1 ≤ t → t < length xs → numbered (set xs t v) ! t ≡ v
+numbered-same xs t v low high = numbered-at (set xs t v) t low ∙ getD-set-same xs t v 0 high
 
 -- a field that is in range is the number of something; one that is not is refused by order 5
 pub field-inside : (last : ℕ) (n : ℤ) → fieldNumber n last ≢ 0 → (outside (pos 1) (pos last) n ≡ false) × (number n ≡ fieldNumber n last)

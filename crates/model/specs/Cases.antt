@@ -6,12 +6,12 @@ use mathlib.Core.List.{List, [], _∷_, _++_, map, foldl}
 use lib.ListN.{length}
 use lib.IntN.{ℤ, pos}
 use Rattle.model.specs.declared.call.Call.{Call}
-use Rattle.model.specs.declared.call.Call.the-variants.{CreTsk, StaTsk, CreMtx, LocMtx, UnlMtx, CreMbf, SndMbf, RcvMbf, CreMpf, GetMpf, Tick}
+use Rattle.model.specs.declared.call.Call.the-variants.{CreTsk, StaTsk, CreMtx, LocMtx, UnlMtx, CreMbf, DelMbf, SndMbf, RcvMbf, CreMpf, GetMpf, Tick}
 use Rattle.model.specs.declared.call.Answer.{Answer}
 use Rattle.model.specs.declared.call.Answer.the-variants.{Code, Waits}
 use Rattle.model.specs.Sizes.{messageBytes, storeBytes, outboxBytes}
 use Rattle.model.specs.Lists.{_!_, upTo, zeros}
-use Rattle.model.specs.Code.{minus, E-OK, E-SYS, E-PAR, E-ILUSE, E-TMOUT}
+use Rattle.model.specs.Code.{minus, E-OK, E-SYS, E-PAR, E-ILUSE, E-TMOUT, E-DLT}
 use Rattle.model.specs.Kernel.{fresh}
 use Rattle.model.specs.World.{Lent, Delivery, Nothing, Message, Block, running}
 use Rattle.model.specs.Message.{part}
@@ -206,6 +206,21 @@ noPassing =
     (used 1 ∷ outboxByte 1 0 ∷ outboxByte 1 27 ∷ outboxByte 1 28 ∷ outboxByte 2 0 ∷ outboxByte 2 3 ∷ outboxByte 2 4 ∷ [])
     (seen (new 2 ∷ OK ∷ new 1 ∷ OK ∷ Waits ∷ Waits ∷ []) [] [] (36 ∷ 1 ∷ 28 ∷ 0 ∷ 1 ∷ 4 ∷ 0 ∷ []))
 
+-- "Last in each call, buffers 1 to 4": task 1's second message waits at the last buffer until task 2 has received the first
+lastDrained : Case
+lastDrained =
+    case
+    (second ++ CreMbf (pos 0) (pos 0) (pos 1) ∷ CreMbf (pos 0) (pos 0) (pos 1) ∷ CreMbf (pos 0) (pos 0) (pos 1) ∷ CreMbf (pos 0) (pos 36) (pos 32)
+    ∷ SndMbf (pos 4) (pos 32) forever ∷ SndMbf (pos 4) (pos 7) forever ∷ RcvMbf (pos 4) forever ∷ [])
+    (used 4 ∷ outboxByte 1 0 ∷ [])
+    (seen (new 2 ∷ OK ∷ new 1 ∷ new 2 ∷ new 3 ∷ new 4 ∷ OK ∷ Waits ∷ new 32 ∷ []) ((1, E-OK) ∷ []) ((2, message 32) ∷ []) (12 ∷ 0 ∷ []))
+
+-- "Deletions: waits there end with -51 E_DLT": of a sender, whose bytes leave the sending bay
+senderDeleted : Case
+senderDeleted =
+    case (second ++ CreMbf (pos 0) (pos 0) (pos 32) ∷ SndMbf (pos 1) (pos 7) forever ∷ DelMbf (pos 1) ∷ [])
+    (outboxByte 1 0 ∷ []) (seen (new 2 ∷ OK ∷ new 1 ∷ Waits ∷ OK ∷ []) ((1, E-DLT) ∷ []) [] (0 ∷ []))
+
 -- ---- inheritance
 
 -- Mutexes 1 and 2 of attribute 2. Task 1 is B (8); task 2 is A (12), which locks mutex 1 while task 1 waits a millisecond; task 3 is C.
@@ -292,6 +307,8 @@ table =
     ∷ timeouts
     ∷ ceilings
     ∷ noPassing
+    ∷ lastDrained
+    ∷ senderDeleted
     ∷ chainRaises
     ∷ chainLowers
     ∷ circleStands
@@ -357,6 +374,14 @@ noPassing-holds : observed noPassing ≡ noPassing .seen
 unfolding compute observed noPassing
 noPassing-holds = refl
 
+lastDrained-holds : observed lastDrained ≡ lastDrained .seen
+unfolding compute observed lastDrained
+lastDrained-holds = refl
+
+senderDeleted-holds : observed senderDeleted ≡ senderDeleted .seen
+unfolding compute observed senderDeleted
+senderDeleted-holds = refl
+
 chainRaises-holds : observed chainRaises ≡ chainRaises .seen
 unfolding compute observed chainRaises
 chainRaises-holds = refl
@@ -388,7 +413,7 @@ storeOf-holds = (refl, (refl, (refl, tt)))
 pub cases : AllHold table
 unfolding table
 cases =
-    (noMessage-holds, (oneByte-holds, (eighthWaits-holds, (tooSmall-holds, (justFits-holds, (oldestFirst-holds, (handedOver-holds, (fewBytes-holds, (longestMessage-holds, (timeouts-holds, (ceilings-holds, (noPassing-holds, (chainRaises-holds, (chainLowers-holds, (circleStands-holds, (circleRaises-holds, (circleLowers-holds, (notHeld-holds, storeOf-holds))))))))))))))))))
+    (noMessage-holds, (oneByte-holds, (eighthWaits-holds, (tooSmall-holds, (justFits-holds, (oldestFirst-holds, (handedOver-holds, (fewBytes-holds, (longestMessage-holds, (timeouts-holds, (ceilings-holds, (noPassing-holds, (lastDrained-holds, (senderDeleted-holds, (chainRaises-holds, (chainLowers-holds, (circleStands-holds, (circleRaises-holds, (circleLowers-holds, (notHeld-holds, storeOf-holds))))))))))))))))))))
 
 -- the fresh state is valid
 pub fresh-valid : valid freshLent ≡ true

@@ -1,5 +1,5 @@
 -- The kernel's state as a record of lists; document 01 calls the kernel the bench. Lists are indexed by an object's number; entry 0
--- stands for none and is zero. The records are built by the functions of this file alone.
+-- stands for none and is zero. In the definitions the records are built by the functions of this file alone.
 use Prim.Native.Nat.{ℕ, suc, _+_, _*_}
 use mathlib.Core.Bool.{Bool, _&&_, not}
 use mathlib.Core.List.{List, [], _∷_, _++_}
