@@ -5,3 +5,4 @@ pub mod WordLaws
 pub mod WalkLaws
 pub mod StartLaws
 pub mod PassLaws
+pub mod UnchangedLaws

@@ -4,3 +4,4 @@ pub mod Effective
 pub mod Own
 pub mod Walk
 pub mod Afresh
+pub mod Unchanged

@@ -167,7 +167,7 @@ module _ (p : ℕ → Bool) where
       go false f m rest = (rest m .0, or-right (eqb u x) _ (rest m .1))
 
   -- what does not pass is nowhere in it
-  select-without : (u : ℕ) (xs : List ℕ) → p u ≡ false → occurrences u (select p xs) ≡ 0
+  pub select-without : (u : ℕ) (xs : List ℕ) → p u ≡ false → occurrences u (select p xs) ≡ 0
   select-without u [] e = refl
   select-without u (x ∷ xs) e = go (p x) refl (select-without u xs e)
     where
@@ -176,7 +176,7 @@ module _ (p : ℕ → Bool) where
       go false f rest = rest
 
   -- and nothing is in it more often than it was
-  select-fewer : (u : ℕ) (xs : List ℕ) → occurrences u (select p xs) ≤ occurrences u xs
+  pub select-fewer : (u : ℕ) (xs : List ℕ) → occurrences u (select p xs) ≤ occurrences u xs
   select-fewer u [] = omega arith
   select-fewer u (x ∷ xs) = go (p x) (eqb u x) (select-fewer u xs)
     where

@@ -9,3 +9,5 @@ pub mod NextToRun
 pub mod NextLaws
 pub mod Fronts
 pub mod Running
+pub mod Listing
+pub mod Members
