@@ -1,0 +1,9 @@
+pub mod Exchange
+pub mod Parts
+pub mod Moves
+pub mod Waits
+pub mod Ends
+pub mod Releases
+pub mod Dormant
+pub mod Stores
+pub mod Drain
