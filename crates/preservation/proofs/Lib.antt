@@ -1,0 +1,10 @@
+pub mod Validity
+pub mod Keeps
+pub mod Objects
+pub mod Tasks
+pub mod Time
+pub mod Mutexes
+pub mod Buffers
+pub mod Pools
+pub mod Records
+pub mod Theorems
