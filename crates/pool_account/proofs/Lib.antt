@@ -1,0 +1,4 @@
+pub mod Untouched
+pub mod Balance
+pub mod Calls
+pub mod Theorems
