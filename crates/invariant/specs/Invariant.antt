@@ -24,7 +24,9 @@ Lasting left = From 1 longest left ⊎ (left ≡ endless)
 pub record TaskKept (box : List ℕ) (r : TaskRow) : Type 0 where
   pub range : Range r
   pub time : ((r .place < locking) × (r .object ≡ 0) × (r .left ≡ 0)) ⊎ ((locking ≤ r .place) × Lasting (r .left))
+  -- who sends nothing has a message of no bytes
   pub silent : r .place ≢ sending → r .argument ≡ 0
+  -- a sender's bytes stand first in its part, and zeros behind them
   pub boxed : drop (r .argument) box ≡ zeros (messageBytes - r .argument)
 
 pub record TasksKept (x : Tasks) (arrivals outbox : List ℕ) : Type 0 where
