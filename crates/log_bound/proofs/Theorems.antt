@@ -81,11 +81,11 @@ lent-log-fits a c bytes = go (ℕ-discrete (length (a .log)) logBytes) (isValid 
     passes : isValid (a .words) (a .store) (a .outbox) ≡ true → valid x ≡ true
     passes e = and-eq-true-iff (eqb (length (a .words)) wordCount) (valid x) .0 (unfold isValid in e) .1
 
-    go : Dec (length (a .log) ≡ logBytes) → (b : Bool) → isValid (a .words) (a .store) (a .outbox) ≡ b → lentStep a c bytes .written ≤ logBytes
+    go : Dec (length (a .log) ≡ logBytes) → (b : Bool) → isValid (a .words) (a .store) (a .outbox) ≡ b → lentStep a c bytes .written ≤ length (a .log)
     go (no d) b e = rw (lent-untouched a c bytes d) (unfold untouched in omega arith)
     go (yes l) false e = rw (lent-not-valid a c bytes l e) (unfold notValid refused in omega (arith, log-length 0 (refused x E-SYS 0)))
     go (yes l) true e =
-        rw (lent-valid a c bytes l e)
+        rw (lent-valid a c bytes l e, l)
         (unfold returned in rw (step-valid x c bytes (passes e)) at (record-log-fits (running (kernel (a .words))) x c bytes))
 
 pub lent-record-log-fits : LentRecordLogFits
@@ -93,7 +93,7 @@ lent-record-log-fits a script at =
     go (ℕ-discrete (length (a .log)) logBytes) (decLe (length script) scriptBytes) (decLe (length script) at) (readRecord script at) refl
   where
     go : Dec (length (a .log) ≡ logBytes) → Dec (length script ≤ scriptBytes) → Dec (length script ≤ at) → (r : Read) → readRecord script at ≡ r
-        → lentRecord a script at .written ≤ logBytes
+        → lentRecord a script at .written ≤ length (a .log)
     go (no d) s h r e = rw (record-no-area a script at d) (omega arith)
     go (yes l) (no s) h r e = rw (record-too-long a script at l (omega arith)) (unfold scriptOver in omega arith)
     go (yes l) (yes s) (yes h) r e = rw (record-end a script at l s h) (unfold scriptOver in omega arith)

@@ -61,11 +61,11 @@ RecordLogFits = (caller : ℕ) (x : Lent) (c : Call) (bytes : List ℕ) → leng
 
 -- "Each record's log, at most 512 bytes, goes to the front of a lent area of 512": no more is written than the area holds, so nothing is cut off
 abbrev pub LentLogFits : Type 0
-LentLogFits = (a : Areas) (c : Call) (bytes : List ℕ) → lentStep a c bytes .written ≤ logBytes
+LentLogFits = (a : Areas) (c : Call) (bytes : List ℕ) → lentStep a c bytes .written ≤ length (a .log)
 
 -- the same for a script at a place, where it stops or is too long as well
 abbrev pub LentRecordLogFits : Type 0
-LentRecordLogFits = (a : Areas) (script : List ℕ) (at : ℕ) → lentRecord a script at .written ≤ logBytes
+LentRecordLogFits = (a : Areas) (script : List ℕ) (at : ℕ) → lentRecord a script at .written ≤ length (a .log)
 
 -- ---- the log of a script
 
