@@ -13,7 +13,7 @@ use Rattle.model.specs.declared.call.Cursor.{Cursor}
 use Rattle.model.specs.declared.call.Read.the-variants.{Record, Stop}
 use Rattle.model.specs.declared.call.Progress.the-variants.{NoArea}
 use Rattle.model.specs.Sizes.{endless, logBytes, scriptBytes}
-use Rattle.model.specs.Lists.{_!_, firstWhere, select}
+use Rattle.model.specs.Lists.{_!_, firstWhere}
 use Rattle.model.specs.Code.{E-OK, E-SYS, E-TMOUT}
 use Rattle.model.specs.Facts.{queue, locking, sending, receiving, getting}
 use Rattle.model.specs.Kernel.{Kernel, withCurrents, withHolder, withLeft, withTaken, slot}
@@ -29,7 +29,7 @@ use Rattle.model.specs.Log.{stopBytes, tooLongBytes, outcomeLog}
 use Rattle.model.specs.Lent.{Areas, lent, isValid, notValid, untouched, returned, lentStep, scriptOver, went, lentRecord}
 use Rattle.model.specs.Script.{ran, logThen, runFrom, run, runScript}
 
--- ---- the first that passes a test, and those that do
+-- ---- the first that passes a test
 
 module _ (p : ℕ → Bool) (x : ℕ) (xs : List ℕ) where
   pub first-here : p x ≡ true → firstWhere p (x ∷ xs) ≡ x
@@ -37,12 +37,6 @@ module _ (p : ℕ → Bool) (x : ℕ) (xs : List ℕ) where
 
   pub first-later : p x ≡ false → firstWhere p (x ∷ xs) ≡ firstWhere p xs
   first-later e = rw (e, firstWhere)
-
-  pub select-here : p x ≡ true → select p (x ∷ xs) ≡ x ∷ select p xs
-  select-here e = rw e
-
-  pub select-later : p x ≡ false → select p (x ∷ xs) ≡ select p xs
-  select-later e = rw e
 
 -- ---- acts
 

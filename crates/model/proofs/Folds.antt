@@ -1,5 +1,5 @@
--- What a loop over numbers keeps, and what serving from the front keeps.
-use Rattle.model.proofs.Terms.{ℕ, zero, suc, _+_, _≤_, add-zero, add-suc, suc-add, arith, _≡_, _∙_, refl, ap, subst, Bool, true, false, foldl, countFrom, upTo, World, serve}
+-- What a loop over numbers keeps, and what serving from the front keeps; a search among numbers.
+use Rattle.model.proofs.Terms.{ℕ, zero, suc, _+_, _≤_, _<_, ℕ-discrete, add-zero, add-suc, suc-add, arith, _≡_, _∙_, refl, sym, ap, subst, _⊎_, inl, inr, Bool, true, false, foldl, countFrom, upTo, World, serve}
 
 -- what is so before each number, and so after the last
 module _ {A : Type 0} (P : ℕ → A → Type 0) (f : A → ℕ → A) (last : ℕ) (turn : (n : ℕ) (a : A) → 1 ≤ n → n ≤ last → P n a → P (suc n) (f a n)) where
@@ -29,3 +29,12 @@ module _ (P : World → Type 0) (can : World → Bool) (act : World → World) (
       go : (b : Bool) → can w ≡ b → (P (act w) → P (serve n can act (act w))) → P (elim b [ true ↦ serve n can act (act w) | false ↦ w ])
       go true e rest = rest (turn w e p)
       go false e rest = p
+
+-- a search among the numbers below n: it finds something, or all of them are so
+pub search-below : {R : Type 0} (B : ℕ → Type 0) → ((x : ℕ) → R ⊎ B x) → (n : ℕ) → (((x : ℕ) → x < n → B x) → R) → R
+search-below B h zero k = k (λ x l. absurd (omega arith))
+search-below B h (suc n) k =
+    elim (h n) [
+      | inl r ↦ r
+      | inr b ↦ search-below B h n (λ below. k (λ x l. elim (ℕ-discrete x n) [ yes e ↦ subst B (sym e) b | no d ↦ below x (omega arith) ]))
+    ]

@@ -4,12 +4,12 @@ use native.Mathlib.Decide.{ℕ-discrete}
 use native.Mathlib.Omega.{arith}
 use mathlib.Core.Path.{_≡_, _∙_, refl, sym, ap}
 use mathlib.Core.Logic.{_≢_, _⊎_, inl, inr}
-use mathlib.Core.Bool.{Bool, true, false, _||_, not, cond, false≢true}
+use mathlib.Core.Bool.{Bool, true, false, _&&_, _||_, not, cond, false≢true, and-false}
 use mathlib.Core.List.{List, [], _∷_, _++_, map}
 use lib.ListN.{length, getD, take}
 use lib.Dec.{eqb, ltb}
 use borrow.Author.Tests.{eqb-true, eq-eqb, ne-eqb, lt-ltb}
-use Rattle.model.specs.Lists.{_!_, countFrom, any, member, keep, select, without, occurrences, zeros}
+use Rattle.model.specs.Lists.{_!_, countFrom, any, placeWhere, member, keep, select, without, occurrences, zeros}
 
 -- ---- tests
 
@@ -24,6 +24,14 @@ or-right false b e = e
 pub or-left : (a b : Bool) → a ≡ true → a || b ≡ true
 or-left true b e = refl
 or-left false b e = absurd (false≢true e)
+
+-- what holds of a choice: by its test, and where it holds of both
+pub by-test : {A : Type 0} (P : A → Type 0) (b : Bool) {x y : A} → (b ≡ true → P x) → (b ≡ false → P y) → P (cond b x y)
+by-test P true f g = f refl
+by-test P false f g = g refl
+
+pub either : {A : Type 0} (P : A → Type 0) (b : Bool) {x y : A} → P x → P y → P (cond b x y)
+either P b h i = by-test P b (λ e. h) (λ e. i)
 
 -- two tests that hold together are the same
 pub bool-ext : (a b : Bool) → (a ≡ true → b ≡ true) → (b ≡ true → a ≡ true) → a ≡ b
@@ -99,6 +107,22 @@ member-entry u (x ∷ xs) e = go (or-elim (eqb u x) _ e) (member-entry u xs)
     go : (eqb u x ≡ true) ⊎ (member u xs ≡ true) → (member u xs ≡ true → (i : ℕ) × (xs ! i ≡ u)) → (i : ℕ) × ((x ∷ xs) ! i ≡ u)
     go (inl q) rest = (0, sym (eqb-true u x q))
     go (inr q) rest = (suc (rest q .0), rest q .1)
+
+-- who is selected passes and was there, and nobody else is
+pub select-member : (p : ℕ → Bool) (m : ℕ) (xs : List ℕ) → member m (select p xs) ≡ p m && member m xs
+select-member p m [] = sym (and-false (p m))
+select-member p m (x ∷ xs) = go (p x) refl (ℕ-discrete m x) (select-member p m xs)
+  where
+    go : (b : Bool) → p x ≡ b → Dec (m ≡ x) → member m (select p xs) ≡ p m && member m xs → member m (keep b x (select p xs)) ≡ p m && (eqb m x || member m xs)
+    go true e (yes q) rest = rw (q, e, eq-eqb x x refl)
+    go false e (yes q) rest = rest ∙ rw (q, e)
+    go true e (no d) rest = rw (ne-eqb m x d) rest
+    go false e (no d) rest = rw (ne-eqb m x d) rest
+
+-- two tests select the same of a list if they agree on it
+pub select-same : (p q : ℕ → Bool) (ts : List ℕ) → ((u : ℕ) → member u ts ≡ true → p u ≡ q u) → select p ts ≡ select q ts
+select-same p q [] h = refl
+select-same p q (t ∷ ts) h = rw (h t (or-left (eqb t t) _ (eq-eqb t t refl)), select-same p q ts (λ u m. h u (or-right (eqb u t) _ m)))
 
 -- a list in which all pass is chosen as it is
 pub select-every : (p : ℕ → Bool) (xs : List ℕ) → ((u : ℕ) → member u xs ≡ true → p u ≡ true) → select p xs ≡ xs
@@ -198,3 +222,20 @@ some-passes p n (x ∷ xs) e m = go (or-elim (eqb n x) (member n xs) m) (some-pa
     go : (eqb n x ≡ true) ⊎ (member n xs ≡ true) → (member n xs ≡ true → any p xs ≡ true) → p x || any p xs ≡ true
     go (inl q) rest = or-left (p x) (any p xs) (rw (← eqb-true n x q) e)
     go (inr q) rest = or-right (p x) (any p xs) (rest q)
+
+-- ---- searches, by the entries of a list
+
+module _ {A : Type 0} (p : A → Bool) (d : A) where
+  pub first-at : (xs : List A) (i : ℕ) → i < length xs → p (getD xs i d) ≡ true → ((j : ℕ) → j < i → p (getD xs j d) ≡ false) → placeWhere p xs ≡ i
+  first-at [] i h e before = absurd (omega arith)
+  first-at (x ∷ xs) zero h e before = rw (e, placeWhere)
+  first-at (x ∷ xs) (suc i) h e before = rw (before 0 (omega arith), placeWhere) (ap suc (first-at xs i (omega arith) e (λ j l. before (suc j) (omega arith))))
+
+  pub some-at : (xs : List A) (i : ℕ) → i < length xs → p (getD xs i d) ≡ true → any p xs ≡ true
+  some-at [] i h e = absurd (omega arith)
+  some-at (x ∷ xs) zero h e = or-left (p x) _ e
+  some-at (x ∷ xs) (suc i) h e = or-right (p x) _ (some-at xs i (omega arith) e)
+
+  pub none-at : (xs : List A) → ((i : ℕ) → i < length xs → p (getD xs i d) ≡ false) → any p xs ≡ false
+  none-at [] h = refl
+  none-at (x ∷ xs) h = rw (h 0 (omega arith)) (none-at xs (λ i l. h (suc i) (omega arith)))

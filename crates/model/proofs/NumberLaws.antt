@@ -18,6 +18,7 @@ use Rattle.model.specs.Kernel.{numbered}
 use Rattle.model.specs.Code.{number, number4}
 use Rattle.model.specs.Number.{wordNumber, fieldNumber, maybeTask, maybeMutex, maybeBuffer, maybePool}
 use Rattle.model.specs.Refusal.{outside}
+use Rattle.model.specs.Valid.{From}
 use Rattle.model.proofs.ListLaws.{or-right}
 use Rattle.model.specs.declared.number.TaskNumber.{TaskNumber}
 use Rattle.model.specs.declared.number.MaybeTask.{MaybeTask}
@@ -49,6 +50,10 @@ Names last u n = (n ≡ u) × (1 ≤ u) × (u ≤ last)
 
 abbrev pub NamesNone : ℕ → ℕ → Type 0
 NamesNone last u = (u ≡ 0) ⊎ (last < u)
+
+pub names-one : (last u : ℕ) → (NamesNone last u → ⊥) → From 1 last u
+names-one last u h =
+    (elim (decLe 1 u) [ yes a ↦ a | no a ↦ absurd (h (inl (omega arith))) ], elim (decLe u last) [ yes b ↦ b | no b ↦ absurd (h (inr (omega arith))) ])
 
 abbrev WordCases : ℕ → ℕ → Type 0
 WordCases last u = Names last u (wordNumber u last) ⊎ ((wordNumber u last ≡ 0) × NamesNone last u)

@@ -1,5 +1,5 @@
--- What is known of a call that nothing refuses: no condition of its list applies. Assumes nothing.
-use Rattle.model.proofs.Terms.{ℕ, zero, suc, _+_, _≤_, _<_, _^_, ℕ-discrete, arith, _≡_, _∙_, refl, sym, _≢_, _⊎_, inl, inr, Bool, true, false, _&&_, _||_, not, false≢true, none, List, [], _∷_, map, getD, ℤ, pos, negsuc, ltZ, leZ, mag, eqb, ltb, eq-eqb, ne-eqb, ltb-false, not-false, longest, endless, _!_, countFrom, firstWhere, member, number, millis, unused, Refusal, firstRefusal, outside, From}
+-- What is known of a call that nothing refuses: no condition of its list applies; and of the code of one that is refused. Assumes nothing.
+use Rattle.model.proofs.Terms.{ℕ, zero, suc, _+_, _≤_, _<_, _^_, ℕ-discrete, arith, _≡_, _∙_, refl, sym, _≢_, _⊎_, inl, inr, Bool, true, false, _&&_, _||_, not, false≢true, Option, none, some, List, [], _∷_, map, getD, ℤ, pos, negsuc, ltZ, leZ, mag, eqb, ltb, eq-eqb, ne-eqb, ltb-false, not-false, longest, endless, _!_, countFrom, firstWhere, member, number, millis, unused, Refusal, firstRefusal, outside, From}
 use Rattle.model.proofs.ByCase.{first-here, first-later, refusal-applies, refusal-not}
 
 -- the condition at a place of the list
@@ -14,6 +14,20 @@ none-applies (r ∷ rs) e n = go (r .applies) refl n (none-applies rs)
     go true f m rest = absurd (let z : _≡_ {A = ℕ} 0 1 = cc (refusal-applies r rs f) in omega arith)
     go false f zero rest = f
     go false f (suc m) rest = rest (sym (refusal-not r rs f) ∙ e) m
+
+-- what holds of each code of the table, and where none applies, holds of the first that applies
+abbrev pub EachCode : (ℤ → Type 0) → List Refusal → Type 0
+EachCode P [] = Unit
+EachCode P (r ∷ rs) = P (r .code) × EachCode P rs
+
+pub of-first : (P : Option ℤ → Type 0) (rs : List Refusal) → EachCode (λ e. P (some e)) rs → (firstRefusal rs ≡ none → P none) → P (firstRefusal rs)
+of-first P [] codes done = done refl
+of-first P (r ∷ rs) codes done = go (r .applies) done (of-first P rs (codes .1))
+  where
+    go : (b : Bool) → (_≡_ {A = Option ℤ} (elim b [ true ↦ some (r .code) | false ↦ firstRefusal rs ]) none → P none)
+        → ((firstRefusal rs ≡ none → P none) → P (firstRefusal rs)) → P (elim b [ true ↦ some (r .code) | false ↦ firstRefusal rs ])
+    go true d rest = codes .0
+    go false d rest = rest d
 
 -- ---- so a field is in its range
 

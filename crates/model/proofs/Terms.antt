@@ -7,7 +7,7 @@ pub use native.Mathlib.Omega.{arith}
 pub use mathlib.Core.Path.{_≡_, _∙_, refl, sym, ap, ap₂, subst, fun-ext}
 pub use mathlib.Core.Logic.{_≢_, _⊎_, inl, inr, _↔_}
 pub use mathlib.Core.Bool.{Bool, true, false, _&&_, _||_, not, cond, false≢true}
-pub use mathlib.Core.Option.{Option, none, some}
+pub use mathlib.Core.Option.{Option, none, some, Option·map}
 pub use mathlib.Core.List.{List, [], _∷_, _++_, map, foldl, append-assoc, append-nil, foldl-append, map-append}
 pub use lib.ListN.{length, getD, take, drop, set, length-append, length-drop, length-map, length-replicate, length-set, length-take, List·getD-eq-default}
 pub use lib.Seq.{ext-getD, getD-set-same, getD-set-other, set-getD, set-out, set-set, length-sets}
@@ -49,3 +49,5 @@ unfoldable pub use Rattle.model.specs.Script.{run, runScript, scriptLog}
 pub use Rattle.model.specs.Script.{Ran, ran, logThen, runFrom}
 unfoldable pub use Rattle.model.specs.Lent.{isValid, withLog, untouched, notValid, returned, lentStep, scriptOver, went, lentRecord}
 pub use Rattle.model.specs.Lent.{lent, Areas, Returned, Went, progressAnswer}
+unfoldable pub use Rattle.model.specs.Ledger.{withTaskEntry, withMutexEntry, withBufferEntry, withPoolEntry, withLines, freshLedger, line, depart, join, lineOf, standing, ledgerFacts, ledgerPriorities, ledgerOrder, ledgerRuns, onTask, holds, onMutex, fallsDormant, starts, rebased, changes, answeredWith, waitsIn, waiting, endsWait, entered}
+pub use Rattle.model.specs.Ledger.{TaskEntry, MutexEntry, Ledger, entries}

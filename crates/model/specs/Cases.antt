@@ -1,4 +1,5 @@
--- 01, "On both sides of the mark": every bullet that has a [P], whole, as one table under one statement, proved by computing.
+-- 01, "On both sides of the mark": every bullet that has a [P], whole, and beside them a case for sentences that no bullet holds, as one table under one
+-- statement, proved by computing.
 use Prim.Native.Nat.{ℕ, suc, pred}
 use mathlib.Core.Path.{_≡_, refl}
 use mathlib.Core.Bool.{true}
@@ -6,7 +7,7 @@ use mathlib.Core.List.{List, [], _∷_, _++_, map, foldl}
 use lib.ListN.{length}
 use lib.IntN.{ℤ, pos}
 use Rattle.model.specs.declared.call.Call.{Call}
-use Rattle.model.specs.declared.call.Call.the-variants.{CreTsk, StaTsk, CreMtx, LocMtx, UnlMtx, CreMbf, DelMbf, SndMbf, RcvMbf, CreMpf, GetMpf, Tick}
+use Rattle.model.specs.declared.call.Call.the-variants.{CreTsk, StaTsk, ChgPri, CreMtx, LocMtx, UnlMtx, CreMbf, DelMbf, SndMbf, RcvMbf, CreMpf, GetMpf, Tick}
 use Rattle.model.specs.declared.call.Answer.{Answer}
 use Rattle.model.specs.declared.call.Answer.the-variants.{Code, Waits}
 use Rattle.model.specs.Sizes.{messageBytes, storeBytes, outboxBytes}
@@ -270,6 +271,14 @@ circleLowers =
     case (circle ++ Tick ∷ LocMtx (pos 1) (pos 1) ∷ Tick ∷ []) (current 2 ∷ current 1 ∷ [])
     (seen (inCircle ++ OK ∷ Waits ∷ OK ∷ []) ((1, E-TMOUT) ∷ (3, E-TMOUT) ∷ (3, E-TMOUT) ∷ []) [] (8 ∷ 8 ∷ []))
 
+-- ---- queues
+
+-- "chg_pri counts as joining anew": task 1 gets the priority that it has, and stands behind task 2, which has it too and runs then
+joinsAnew : Case
+joinsAnew =
+    case (CreTsk (pos 8) ∷ StaTsk (pos 2) ∷ ChgPri (pos 0) (pos 8) ∷ []) (current 1 ∷ (λ x. running (x .kernel)) ∷ [])
+    (seen (new 2 ∷ OK ∷ OK ∷ []) [] [] (8 ∷ 2 ∷ []))
+
 -- ---- refusals
 
 -- "Unlock of another's mutex: -28."
@@ -314,6 +323,7 @@ table =
     ∷ circleStands
     ∷ circleRaises
     ∷ circleLowers
+    ∷ joinsAnew
     ∷ notHeld
     ∷ storeOf (pred storeBytes) (Code E-SYS)
     ∷ storeOf storeBytes OK
@@ -402,6 +412,10 @@ circleLowers-holds : observed circleLowers ≡ circleLowers .seen
 unfolding compute observed circleLowers
 circleLowers-holds = refl
 
+joinsAnew-holds : observed joinsAnew ≡ joinsAnew .seen
+unfolding compute observed joinsAnew
+joinsAnew-holds = refl
+
 notHeld-holds : observed notHeld ≡ notHeld .seen
 unfolding compute observed notHeld
 notHeld-holds = refl
@@ -413,7 +427,7 @@ storeOf-holds = (refl, (refl, (refl, tt)))
 pub cases : AllHold table
 unfolding table
 cases =
-    (noMessage-holds, (oneByte-holds, (eighthWaits-holds, (tooSmall-holds, (justFits-holds, (oldestFirst-holds, (handedOver-holds, (fewBytes-holds, (longestMessage-holds, (timeouts-holds, (ceilings-holds, (noPassing-holds, (lastDrained-holds, (senderDeleted-holds, (chainRaises-holds, (chainLowers-holds, (circleStands-holds, (circleRaises-holds, (circleLowers-holds, (notHeld-holds, storeOf-holds))))))))))))))))))))
+    (noMessage-holds, (oneByte-holds, (eighthWaits-holds, (tooSmall-holds, (justFits-holds, (oldestFirst-holds, (handedOver-holds, (fewBytes-holds, (longestMessage-holds, (timeouts-holds, (ceilings-holds, (noPassing-holds, (lastDrained-holds, (senderDeleted-holds, (chainRaises-holds, (chainLowers-holds, (circleStands-holds, (circleRaises-holds, (circleLowers-holds, (joinsAnew-holds, (notHeld-holds, storeOf-holds)))))))))))))))))))))
 
 -- the fresh state is valid
 pub fresh-valid : valid freshLent ≡ true

@@ -20,21 +20,3 @@ pub own-agree : (f g : Facts) (t : ℕ) → f .base ! t ≡ g .base ! t → f .m
     → ownPriority f t ≡ ownPriority g t
 unfolding ownPriority
 own-agree f g t base attribute ceiling holder = rw (base, attribute, ceiling, holder)
-
--- the fields that they are read from
-pub effectives-fields : (f g : Facts) → f .base ≡ g .base → f .place ≡ g .place → f .object ≡ g .object
-    → f .mutexAttribute ≡ g .mutexAttribute → f .ceiling ≡ g .ceiling → f .holder ≡ g .holder → effectives f ≡ effectives g
-unfolding effectives effective ownPriority holderAwaited
-effectives-fields f g base place object attribute ceiling holder i =
-    effectives
-    (record {
-      base = base i;
-      place = place i;
-      object = object i;
-      mutexAttribute = attribute i;
-      ceiling = ceiling i;
-      holder = holder i;
-      bufferAttribute = f .bufferAttribute;
-      poolAttribute = f .poolAttribute;
-      arrivals = f .arrivals;
-    })

@@ -2,17 +2,17 @@
 use Prim.Native.Nat.{ℕ, zero, suc, _≤_, _<_}
 use native.Mathlib.Decide.{ℕ-discrete, decLe}
 use native.Mathlib.Omega.{arith}
-use mathlib.Core.Path.{_≡_, _∙_, refl, sym, ap}
+use mathlib.Core.Path.{_≡_, _∙_, refl, sym}
 use mathlib.Core.Logic.{_⊎_, inl, inr}
-use mathlib.Core.Bool.{Bool, true, false, _&&_, not, false≢true, and-true, and-false}
+use mathlib.Core.Bool.{Bool, true, false, _&&_, not, and-true, and-false}
 use mathlib.Core.List.{List, [], _∷_}
 use lib.ListN.{length, set, length-set}
 use lib.Seq.{getD-set-same, getD-set-other}
 use lib.Dec.{eqb, ltb}
-use borrow.Author.Tests.{lt-ltb, le-ltb, le-leb, lt-leb, eq-eqb, ne-eqb, eqb-true}
+use borrow.Author.Tests.{lt-ltb, le-ltb, le-leb, lt-leb, eq-eqb, ne-eqb}
 use Rattle.model.specs.Sizes.{tasks}
 use Rattle.model.specs.Lists.{_!_, upTo, member, select, keep, without, within}
-use Rattle.model.proofs.ListLaws.{length-select, or-elim, or-left, or-right, without-shorter, member-countFrom}
+use Rattle.model.proofs.ListLaws.{select-member, length-select, without-shorter, member-countFrom}
 use Rattle.model.proofs.NumberLaws.{Names, NamesNone}
 use Rattle.priority.specs.Walk.{walked}
 
@@ -45,15 +45,7 @@ unvisited-most p cs = length-select (λ t. ltb p (cs ! t)) (upTo tasks)
 
 module _ (f : ℕ → Bool) (v : ℕ) where
   selected : (xs : List ℕ) → member v xs ≡ true → f v ≡ true → member v (select f xs) ≡ true
-  selected [] e h = e
-  selected (x ∷ xs) e h = go (f x) refl (or-elim (eqb v x) (member v xs) e) (λ r. selected xs r h)
-    where
-      go : (b : Bool) → f x ≡ b → (eqb v x ≡ true) ⊎ (member v xs ≡ true) → (member v xs ≡ true → member v (select f xs) ≡ true)
-          → member v (keep b x (select f xs)) ≡ true
-      go true q (inl r) rest = or-left (eqb v x) _ r
-      go true q (inr r) rest = or-right (eqb v x) _ (rest r)
-      go false q (inl r) rest = absurd (false≢true (sym q ∙ ap f (sym (eqb-true v x r)) ∙ h))
-      go false q (inr r) rest = rest r
+  selected xs e h = select-member f v xs ∙ rw (h, e)
 
   -- a test that is the same but for v, which does not pass it
   select-without : (g : ℕ → Bool) → ((x : ℕ) → g x ≡ f x && not (eqb v x)) → (xs : List ℕ) → select g xs ≡ without v (select f xs)

@@ -1,11 +1,11 @@
 -- What arrivals and departures do to any queue, and why the arrival order is never used up. Assumes nothing.
-use Prim.Native.Nat.{ℕ, zero, suc, _+_, _-_, _≤_, _<_}
+use Prim.Native.Nat.{ℕ, zero, suc, _-_, _≤_, _<_}
 use native.Mathlib.Nat.{sub-zero, suc-sub-suc}
 use native.Mathlib.Decide.{ℕ-discrete}
 use native.Mathlib.Omega.{arith}
 use mathlib.Core.Path.{_≡_, _∙_, refl, sym, ap}
 use mathlib.Core.Logic.{_≢_, _⊎_, inl, inr}
-use mathlib.Core.Bool.{Bool, true, false, _&&_, _||_, not, false≢true, and-false}
+use mathlib.Core.Bool.{Bool, true, false, _&&_, _||_, not, false≢true, and-false, and-eq-true-iff}
 use mathlib.Core.List.{List, [], _∷_, _++_, append-nil}
 use lib.ListN.{length, take, length-append}
 use lib.Seq.{getD-set-same, getD-set-other}
@@ -16,7 +16,7 @@ use Rattle.model.specs.Lists.{upTo, zeros, padded, keep, select, member, withou
 use Rattle.model.specs.Facts.{Queue}
 use Rattle.model.specs.Kernel.{Kernel, others, departed, arrived, standsIn, facts, withArrivals, withPlace, withObject, withCurrents}
 use Rattle.model.specs.Act.{arrive}
-use Rattle.model.proofs.ListLaws.{length-select, or-elim, or-left, or-right, without-keeps, without-shorter, length-countFrom, member-countFrom, member-append, take-zeros}
+use Rattle.model.proofs.ListLaws.{select-member, length-select, or-elim, or-left, or-right, without-keeps, without-shorter, length-countFrom, member-countFrom, take-zeros}
 
 -- ---- selecting
 
@@ -153,18 +153,7 @@ currents-queue k v r = refl
 module _ (p : ℕ → Bool) where
   -- what is selected passes and was there
   pub member-select : (u : ℕ) (xs : List ℕ) → member u (select p xs) ≡ true → (p u ≡ true) × (member u xs ≡ true)
-  member-select u [] e = absurd (false≢true e)
-  member-select u (x ∷ xs) e = go (p x) refl e (member-select u xs)
-    where
-      first : p x ≡ true → (eqb u x ≡ true) ⊎ (member u (select p xs) ≡ true) → (member u (select p xs) ≡ true → (p u ≡ true) × (member u xs ≡ true))
-          → (p u ≡ true) × (eqb u x || member u xs ≡ true)
-      first f (inl q) rest = (rw (eqb-true u x q) f, or-left (eqb u x) _ q)
-      first f (inr q) rest = (rest q .0, or-right (eqb u x) _ (rest q .1))
-
-      go : (b : Bool) → p x ≡ b → member u (keep b x (select p xs)) ≡ true → (member u (select p xs) ≡ true → (p u ≡ true) × (member u xs ≡ true))
-          → (p u ≡ true) × (eqb u x || member u xs ≡ true)
-      go true f m rest = first f (or-elim (eqb u x) _ m) rest
-      go false f m rest = (rest m .0, or-right (eqb u x) _ (rest m .1))
+  member-select u xs e = and-eq-true-iff (p u) (member u xs) .0 (sym (select-member p u xs) ∙ e)
 
   -- what does not pass is nowhere in it
   pub select-without : (u : ℕ) (xs : List ℕ) → p u ≡ false → occurrences u (select p xs) ≡ 0
@@ -269,49 +258,3 @@ module _ (t : ℕ) (low : 1 ≤ t) (high : t ≤ tasks) (ts : List ℕ) (listed 
   -- so there is always room for t
   pub room : length (others t ts) < tasks
   room = let a = no-more (t ∷ others t ts) (upTo tasks) others-member others-once in omega (arith, length-countFrom 1 tasks)
-
-  -- and the arrivals stay well listed, whatever the number of acts
-  zeros-member : (u n : ℕ) → member u (zeros n) ≡ true → u ≡ 0
-  zeros-member u zero m = absurd (false≢true m)
-  zeros-member u (suc n) m = go (or-elim (eqb u 0) _ m) (zeros-member u n)
-    where
-      go : (eqb u 0 ≡ true) ⊎ (member u (zeros n) ≡ true) → (member u (zeros n) ≡ true → u ≡ 0) → u ≡ 0
-      go (inl q) rest = eqb-true u 0 q
-      go (inr q) rest = rest q
-
-  padded-range : (xs : List ℕ) → length xs ≤ length ts → ((u : ℕ) → member u xs ≡ true → u ≤ tasks) → (u : ℕ) → member u (padded (length ts) xs) ≡ true → u ≤ tasks
-  padded-range xs h r u m = go (member-append u xs (zeros (length ts - length xs)) (rw (padded-is (length ts) xs h) at m))
-    where
-      go : (member u xs ≡ true) ⊎ (member u (zeros (length ts - length xs)) ≡ true) → u ≤ tasks
-      go (inl q) = r u q
-      go (inr q) = let e = zeros-member u (length ts - length xs) q in omega arith
-
-  pub departed-listed : Listed (departed t ts)
-  unfolding departed
-  departed-listed = record { once = λ u z. rw (ap length (select-padded (eqb u) (length ts) (others t ts) (ne-eqb u 0 z) (length-others t ts))) (few u); range = padded-range (others t ts) (length-others t ts) (λ u m. others-in u m .1) }
-    where
-      few : (u : ℕ) → occurrences u (others t ts) ≤ 1
-      few u = occurs-tail t _ (eqb u t) (others-once u)
-
-  pub arrived-listed : length ts ≡ tasks → Listed (arrived t ts)
-  unfolding arrived
-  arrived-listed n =
-      record {
-        once = λ u z. rw (ap length (select-padded (eqb u) (length ts) (others t ts ++ t ∷ []) (ne-eqb u 0 z) fits)) (few u (ℕ-discrete u t));
-        range = padded-range (others t ts ++ t ∷ []) fits (λ u m. in-range u (member-append u (others t ts) (t ∷ []) m));
-      }
-    where
-      fits : length (others t ts ++ t ∷ []) ≤ length ts
-      fits = rw length-append (let r = room in omega arith)
-
-      few : (u : ℕ) → Dec (u ≡ t) → occurrences u (others t ts ++ t ∷ []) ≤ 1
-      few u (yes e) = rw (select-append, length-append, e, eq-eqb t t refl) (let a = others-gone in omega arith)
-      few u (no d) = rw (select-append, length-append, ne-eqb u t d) (let a = others-few u d in omega arith)
-
-      its : (u : ℕ) → (eqb u t ≡ true) ⊎ (false ≡ true) → u ≤ tasks
-      its u (inl q) = let e = eqb-true u t q in omega arith
-      its u (inr q) = absurd (false≢true q)
-
-      in-range : (u : ℕ) → (member u (others t ts) ≡ true) ⊎ (member u (t ∷ []) ≡ true) → u ≤ tasks
-      in-range u (inl q) = others-in u q .1
-      in-range u (inr q) = its u (or-elim (eqb u t) false q)

@@ -4,7 +4,7 @@ use native.Mathlib.Nat.{sub-self}
 use native.Mathlib.Numerals.{add-one}
 use native.Mathlib.Omega.{arith}
 use mathlib.Core.Path.{_≡_, _∙_, refl, sym, ap, ap₂}
-use mathlib.Core.Bool.{Bool, true, false, _&&_, not, and-false}
+use mathlib.Core.Bool.{true, false, not, and-false}
 use mathlib.Core.List.{List, [], _∷_, _++_, append-nil, append-assoc}
 use lib.Dec.{eqb}
 use borrow.Author.Tests.{eq-eqb, ne-eqb}
@@ -33,10 +33,6 @@ other-itself t u e = rw (eq-eqb u t e) (and-false (not (eqb u 0)))
 same-arrivals : (k : Kernel) → withArrivals k (k .arrivals) ≡ k
 unfolding withArrivals
 same-arrivals k = refl
-
-again-arrivals : (k : Kernel) (x y : List ℕ) → withArrivals (withArrivals k x) y ≡ withArrivals k y
-unfolding withArrivals
-again-arrivals k x y = refl
 
 pub the-arrivals : (k : Kernel) (x : List ℕ) → withArrivals k x .arrivals ≡ x
 unfolding withArrivals

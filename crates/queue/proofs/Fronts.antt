@@ -14,7 +14,6 @@ use Rattle.model.specs.Facts.{Queue}
 use Rattle.model.specs.Queue.{byPriority, sorted, ordered, order, front, wouldHead}
 use Rattle.model.specs.Kernel.{Kernel, standsIn, facts}
 use Rattle.model.specs.World.{queueFront, headsQueue}
-use Rattle.model.specs.Valid.{From}
 use Rattle.model.proofs.ListLaws.{or-left, member-middle}
 use Rattle.model.specs.declared.number.TaskNumber.{TaskNumber}
 use Rattle.model.specs.declared.number.MaybeTask.{MaybeTask}
@@ -75,13 +74,6 @@ module _ (k : Kernel) (q : Queue) where
       go : Someone (queueFront k q) → standsIn k q (queueFront k q) ≡ true
       go (inl n) = absurd (h (n .1))
       go (inr m) = member-select (standsIn k q) (queueFront k q) (k .arrivals) m .0
-
-  pub front-task : (queueFront k q ≡ 0) ⊎ From 1 tasks (queueFront k q)
-  front-task = go front-someone
-    where
-      go : Someone (queueFront k q) → (queueFront k q ≡ 0) ⊎ From 1 tasks (queueFront k q)
-      go (inl n) = inl (n .1)
-      go (inr m) = inr (task-of (queueFront k q) m)
 
   -- what is found by its word is the front
   pub front-found : (r : ℕ) → r ≡ queueFront k q → maybeTask (wordNumber r tasks) ≡ maybeTask (queueFront k q)

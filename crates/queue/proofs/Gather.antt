@@ -6,9 +6,9 @@ use native.Mathlib.Omega.{arith}
 use mathlib.Core.Path.{_≡_, _∙_, refl, sym, ap}
 use mathlib.Core.Bool.{Bool, true, false, cond}
 use mathlib.Core.List.{List, [], _∷_, _++_, append-nil, append-assoc}
-use lib.ListN.{length, getD, take, drop, set, length-append, length-take, length-drop, length-set, drop-of-length-le}
+use lib.ListN.{length, take, drop, set, length-append, length-take, length-drop, length-set, drop-of-length-le}
 use lib.Seq.{take-suc, drop-cons, getD-append-add, getD-drop, take-length, take-all, take-append-seam, take-append-add}
-use Rattle.model.specs.Lists.{_!_, keep, select, padded, zeros}
+use Rattle.model.specs.Lists.{_!_, keep, padded, zeros}
 use Rattle.model.specs.Kernel.{others, departed, arrived}
 use Rattle.queue.specs.Arriving.{other, keptArrivals, keptCount}
 use Rattle.queue.proofs.ArrivalLaws.{select-append, length-others, padded-is}

@@ -17,6 +17,7 @@ use Rattle.model.specs.Facts.{readyQueue}
 use Rattle.model.specs.Queue.{searchReady, nextToRun}
 use Rattle.model.specs.Kernel.{Kernel, numbered, standsIn, facts}
 use Rattle.model.specs.World.{running}
+use Rattle.model.proofs.ByCase.{first-here, first-later}
 use Rattle.model.proofs.NumberLaws.{numbered-at, word-in-range, task-zero}
 use Rattle.model.specs.Words.{wordCount, kernel}
 use Rattle.queue.proofs.NextToRun.{search-none, search-hit}
@@ -29,12 +30,6 @@ readyAt k p u = standsIn k readyQueue u && eqb (numbered (k .tasks .current) ! u
 
 -- ---- the first that passes
 
-pub where-yes : (p : ℕ → Bool) (x : ℕ) (xs : List ℕ) → p x ≡ true → firstWhere p (x ∷ xs) ≡ x
-where-yes p x xs e = rw (e, firstWhere)
-
-pub where-no : (p : ℕ → Bool) (x : ℕ) (xs : List ℕ) → p x ≡ false → firstWhere p (x ∷ xs) ≡ firstWhere p xs
-where-no p x xs e = rw (e, firstWhere)
-
 where-select : (f g : ℕ → Bool) (xs : List ℕ) → firstWhere f (select g xs) ≡ firstWhere (λ u. g u && f u) xs
 where-select f g [] = refl
 where-select f g (x ∷ xs) = go (g x) (f x) refl refl (where-select f g xs)
@@ -42,14 +37,14 @@ where-select f g (x ∷ xs) = go (g x) (f x) refl refl (where-select f g xs)
     go : (b d : Bool) → g x ≡ b → f x ≡ d → firstWhere f (select g xs) ≡ firstWhere (λ u. g u && f u) xs
         → firstWhere f (select g (x ∷ xs)) ≡ firstWhere (λ u. g u && f u) (x ∷ xs)
     go true true e h rest =
-        ap (λ (c : Bool). firstWhere f (keep c x (select g xs))) e ∙ where-yes f x (select g xs) h
-        ∙ sym (where-yes (λ u. g u && f u) x xs (ap (λ (c : Bool). c && f x) e ∙ h))
+        ap (λ (c : Bool). firstWhere f (keep c x (select g xs))) e ∙ first-here f x (select g xs) h
+        ∙ sym (first-here (λ u. g u && f u) x xs (ap (λ (c : Bool). c && f x) e ∙ h))
     go true false e h rest =
-        ap (λ (c : Bool). firstWhere f (keep c x (select g xs))) e ∙ where-no f x (select g xs) h ∙ rest
-        ∙ sym (where-no (λ u. g u && f u) x xs (ap (λ (c : Bool). c && f x) e ∙ h))
+        ap (λ (c : Bool). firstWhere f (keep c x (select g xs))) e ∙ first-later f x (select g xs) h ∙ rest
+        ∙ sym (first-later (λ u. g u && f u) x xs (ap (λ (c : Bool). c && f x) e ∙ h))
     go false d e h rest =
         ap (λ (c : Bool). firstWhere f (keep c x (select g xs))) e ∙ rest
-        ∙ sym (where-no (λ u. g u && f u) x xs (ap (λ (c : Bool). c && f x) e))
+        ∙ sym (first-later (λ u. g u && f u) x xs (ap (λ (c : Bool). c && f x) e))
 
 module _ (k : Kernel) where
   abbrev ts : List ℕ
@@ -107,7 +102,7 @@ module _ (w : List ℕ) (p i : ℕ) (l : Looking w p i) where
         inside = l .inside;
         rest =
             l .rest ∙ ap (firstWhere (readyAt (kernel w) p)) (here h)
-            ∙ where-no (readyAt (kernel w) p) (kernel w .arrivals ! i) (drop (i + 1) (kernel w .arrivals)) (ap (readyAt (kernel w) p) (sym e) ∙ f);
+            ∙ first-later (readyAt (kernel w) p) (kernel w .arrivals ! i) (drop (i + 1) (kernel w .arrivals)) (ap (readyAt (kernel w) p) (sym e) ∙ f);
         few = omega arith;
       }
 
@@ -144,7 +139,7 @@ module _ (w : List ℕ) (p i : ℕ) (l : Looking w p i) where
       found : firstWhere (λ v. eqb (kernel w .tasks .current ! v) p) (ts (kernel w)) ≡ u
       found =
           at-priority (kernel w) p ∙ l .rest ∙ ap (firstWhere (readyAt (kernel w) p)) (here h)
-          ∙ where-yes (readyAt (kernel w) p) (kernel w .arrivals ! i) (drop (i + 1) (kernel w .arrivals)) (ap (readyAt (kernel w) p) (sym e) ∙ f) ∙ sym e
+          ∙ first-here (readyAt (kernel w) p) (kernel w .arrivals ! i) (drop (i + 1) (kernel w .arrivals)) (ap (readyAt (kernel w) p) (sym e) ∙ f) ∙ sym e
 
       there : u ≢ 0
       there = let a = task .0 in omega arith

@@ -1,7 +1,6 @@
 -- The running task of any state is a task that is ready, or 0 where there is none. Assumes nothing.
-use Prim.Native.Nat.{ℕ, _≤_}
+use Prim.Native.Nat.{ℕ}
 use native.Mathlib.Decide.{ℕ-discrete}
-use native.Mathlib.Omega.{arith}
 use mathlib.Core.Path.{_≡_, refl, sym, subst}
 use mathlib.Core.Logic.{_≢_, _⊎_, inl, inr}
 use mathlib.Core.Bool.{true}
@@ -58,10 +57,3 @@ module _ (k : Kernel) where
       go : Dec (running k ≡ 0) → (running k ≡ 0) ⊎ From 1 tasks (running k)
       go (yes e) = inl e
       go (no n) = inr (stands-task k readyQueue (running k) (running-stands n))
-
-  pub running-range : running k ≤ tasks
-  running-range = go running-task
-    where
-      go : (running k ≡ 0) ⊎ From 1 tasks (running k) → running k ≤ tasks
-      go (inl e) = omega arith
-      go (inr r) = r .1
