@@ -1,5 +1,5 @@
 -- The drain: a first sender that fits is stored and leaves its queue, so the turns that a buffer has are enough, and no other buffer's first sender is touched.
-use Rattle.model.proofs.Terms.{ℕ, zero, suc, _+_, _≤_, _<_, ℕ-discrete, arith, _≡_, _∙_, refl, sym, ap, _≢_, Bool, true, false, _&&_, not, List, foldl, length, getD-set-other, set-set, eqb, leb, eqb-false, leb-true, not-true, tasks, buffers, _!_, upTo, member, without, E-OK, queue, readyQueue, sending, receiving, Kernel, withBuffers, withArgument, withLeft, withUsed, facts, standsIn, byPriority, ordered, order, front, World, Nothing, queueOrder, queueFront, cost, arrive, recomputeIf, endWait, fits, storeMessage, sendersMessage, serve, firstFits, storeFirst, drain, Each, From}
+use Rattle.model.proofs.Terms.{ℕ, zero, suc, _+_, _≤_, _<_, ℕ-discrete, arith, _≡_, _∙_, refl, sym, ap, _≢_, Bool, true, false, not, List, foldl, length, getD-set-other, set-set, eqb, eqb-false, leb-true, not-true, tasks, buffers, _!_, upTo, without, E-OK, queue, readyQueue, sending, receiving, Kernel, withBuffers, withArgument, withLeft, withUsed, facts, standsIn, byPriority, ordered, order, front, World, Nothing, queueOrder, queueFront, cost, arrive, recomputeIf, endWait, fits, storeMessage, sendersMessage, serve, firstFits, storeFirst, drain, Each, From}
 use mathlib.Core.Bool.{and-eq-true-iff}
 use Rattle.model.proofs.ListLaws.{without-none, without-shorter}
 use Rattle.model.proofs.ByCase.{serve-more, serve-stop}
@@ -15,11 +15,11 @@ use Rattle.invariant.proofs.Waits.{ended}
 use Rattle.invariant.proofs.Stores.{buffer-there, stored}
 
 -- the first sender's message fits: what that says of it
-record Fitting (k : Kernel) (b t : ℕ) : Type 0 where
-  stands : Stood k (queue sending b) t
+pub record Fitting (k : Kernel) (b t : ℕ) : Type 0 where
+  pub stands : Stood k (queue sending b) t
   room : k .buffers .used ! b + cost (k .tasks .argument ! t) ≤ k .buffers .bufsz ! b
 
-fitting : (k : Kernel) (b : ℕ) → firstFits k b ≡ true → Fitting k b (queueFront k (queue sending b))
+pub fitting : (k : Kernel) (b : ℕ) → firstFits k b ≡ true → Fitting k b (queueFront k (queue sending b))
 unfolding firstFits fits
 fitting k b e =
     let x = and-eq-true-iff (not (eqb (queueFront k (queue sending b)) 0)) _ .0 e in
@@ -31,12 +31,7 @@ fits-same : (k j : Kernel) (c : ℕ) → queueOrder j (queue sending c) ≡ queu
     → (queueFront k (queue sending c) ≢ 0 → j .tasks .argument ! queueFront k (queue sending c) ≡ k .tasks .argument ! queueFront k (queue sending c))
     → firstFits j c ≡ firstFits k c
 unfolding firstFits fits queueFront front queueOrder
-fits-same k j c o u z a = rw (o, u, z) (go (ℕ-discrete (queueFront k (queue sending c)) 0))
-  where
-    go : Dec (queueFront k (queue sending c) ≡ 0)
-        → not (eqb (queueFront k (queue sending c)) 0) && leb (k .buffers .used ! c + cost (j .tasks .argument ! queueFront k (queue sending c))) (k .buffers .bufsz ! c) ≡ firstFits k c
-    go (yes e) = rw e
-    go (no d) = rw (a d)
+fits-same k j c o u z a = rw (o, u, z) (elim (ℕ-discrete (queueFront k (queue sending c)) 0) [ yes e ↦ rw e | no d ↦ rw (a d) ])
 
 module _ {w : World} (s : Steady 0 w) (b t : ℕ) (low : 1 ≤ b) (high : b ≤ buffers) (f : Fitting (w .kernel) b t) where
   abbrev k : Kernel
@@ -62,52 +57,34 @@ module _ {w : World} (s : Steady 0 w) (b t : ℕ) (low : 1 ≤ b) (high : b ≤ 
   abbrev served : World
   served = endWait (storeMessage w b message) t E-OK Nothing
 
-  served-kept : Steady 0 served
+  pub served-kept : Steady 0 served
   served-kept =
       ended (stored s b low high message (sends .0) (rw long (sends .1)) (rw long (f .room)) nobody) t (f .stands .low) (f .stands .high) E-OK Nothing
       (unfold storeMessage withUsed withBuffers openWorld in omega (arith, f .stands .place))
 
-  -- the kernel after it, but for what no queue reads
-  abbrev filled : Kernel
-  filled = withUsed k b (k .buffers .used ! b + cost (length message))
-
-  served-is : served .kernel ≡ withLeft (withArgument (arrive filled t readyQueue) t 0) t 0
+  -- the kernel after it: the last two no queue reads
+  served-is : served .kernel ≡ withLeft (withArgument (arrive (withUsed k b (k .buffers .used ! b + cost (length message))) t readyQueue) t 0) t 0
   unfolding storeMessage recomputeIf withUsed withBuffers openEnd
   served-is = rw (f .stands .place, set-set (k .tasks .object) t 0 0)
 
   order-after : (c : ℕ) → queueOrder (served .kernel) (queue sending c) ≡ without t (queueOrder k (queue sending c))
+  unfolding queueOrder order ordered byPriority facts standsIn arrive withUsed withBuffers openTasks
   order-after c =
-      ap (λ (j : Kernel). queueOrder j (queue sending c)) served-is ∙ unread
+      ap (λ (j : Kernel). queueOrder j (queue sending c)) served-is
       ∙ arrive-order k t readyQueue (queue sending c) (f .stands .low) (f .stands .high) (inside (s .invariant .ofTasks .lists .place) (f .stands .high))
       (inside (s .invariant .ofTasks .lists .object) (f .stands .high)) (room-left (s .invariant .ofTasks .listing) t (f .stands .low) (f .stands .high)) refl
-    where
-      unread : queueOrder (withLeft (withArgument (arrive filled t readyQueue) t 0) t 0) (queue sending c) ≡ queueOrder (arrive k t readyQueue) (queue sending c)
-      unread = unfold queueOrder order ordered byPriority facts standsIn arrive withUsed withBuffers openTasks in refl
-
-  shorter : member t (queueOrder k (queue sending b)) ≡ true → length (queueOrder (served .kernel) (queue sending b)) < length (queueOrder k (queue sending b))
-  shorter i = rw (order-after b) (without-shorter t (queueOrder k (queue sending b)) i)
 
   -- who stands in another buffer's queue is not this task
   elsewhere : (c : ℕ) → c ≢ b → (u : ℕ) → Stood k (queue sending c) u → u ≢ t
   elsewhere c d u x e = d (sym (x .object) ∙ ap (λ (v : ℕ). k .tasks .object ! v) e ∙ f .stands .object)
 
   others-stay : (c : ℕ) → c ≢ b → firstFits (served .kernel) c ≡ firstFits k c
+  unfolding arrive withUsed withBuffers openTasks
   others-stay c d =
       fits-same k (served .kernel) c (order-after c ∙ without-none t (queueOrder k (queue sending c)) (λ m. elsewhere c d t (of-queue k (queue sending c) t m) refl))
-      (ap (λ (j : Kernel). j .buffers .used ! c) served-is ∙ used) (ap (λ (j : Kernel). j .buffers .bufsz ! c) served-is ∙ bufsz)
-      (λ n. ap (λ (j : Kernel). j .tasks .argument ! queueFront k (queue sending c)) served-is ∙ argument n)
-    where
-      used : withLeft (withArgument (arrive filled t readyQueue) t 0) t 0 .buffers .used ! c ≡ k .buffers .used ! c
-      used = unfold arrive withUsed withBuffers openTasks in getD-set-other (k .buffers .used) b c _ 0 d
-
-      bufsz : withLeft (withArgument (arrive filled t readyQueue) t 0) t 0 .buffers .bufsz ! c ≡ k .buffers .bufsz ! c
-      bufsz = unfold arrive withUsed withBuffers openTasks in refl
-
-      argument : queueFront k (queue sending c) ≢ 0
-          → withLeft (withArgument (arrive filled t readyQueue) t 0) t 0 .tasks .argument ! queueFront k (queue sending c) ≡ k .tasks .argument ! queueFront k (queue sending c)
-      argument n =
-          unfold arrive withUsed withBuffers openTasks in
-          getD-set-other (k .tasks .argument) t (queueFront k (queue sending c)) 0 0 (elsewhere c d _ (front-stood k (queue sending c) n))
+      (ap (λ (j : Kernel). j .buffers .used ! c) served-is ∙ getD-set-other (k .buffers .used) b c _ 0 d) (ap (λ (j : Kernel). j .buffers .bufsz ! c) served-is)
+      (λ n. ap (λ (j : Kernel). j .tasks .argument ! queueFront k (queue sending c)) served-is
+      ∙ getD-set-other (k .tasks .argument) t (queueFront k (queue sending c)) 0 0 (elsewhere c d _ (front-stood k (queue sending c) n)))
 
 -- ---- one buffer, and all
 
@@ -146,22 +123,17 @@ module _ (b : ℕ) (low : 1 ≤ b) (high : b ≤ buffers) where
   unfolding storeFirst
   less w s e =
       let f = fitting (w .kernel) b e in
-      shorter s b _ low high f (front-in (w .kernel) (queue sending b) (λ (z : queueFront (w .kernel) (queue sending b) ≡ 0). omega (arith, f .stands .low)))
+      let first = front-in (w .kernel) (queue sending b) (λ (z : queueFront (w .kernel) (queue sending b) ≡ 0). omega (arith, f .stands .low)) in
+      rw (order-after s b _ low high f b) (without-shorter (queueFront (w .kernel) (queue sending b)) (queueOrder (w .kernel) (queue sending b)) first)
 
   serves : (n : ℕ) (w : World) → Steady 0 w → length (queueOrder (w .kernel) (queue sending b)) ≤ n → Served n b w (serving n w b)
   unfolding storeFirst
-  serves zero w s h = stops zero w s (go (can b w) refl)
-    where
-      go : (x : Bool) → can b w ≡ x → x ≡ false
-      go true e = absurd (omega (arith, less w s e))
-      go false e = refl
-  serves (suc n) w s h = go (can b w) refl (serves n (storeFirst w b))
-    where
-      go : (x : Bool) → can b w ≡ x
-          → (Steady 0 (storeFirst w b) → length (queueOrder (storeFirst w b .kernel) (queue sending b)) ≤ n → Served n b (storeFirst w b) (serving n (storeFirst w b) b))
-          → Served (suc n) b w (serving (suc n) w b)
-      go false e rest = stops (suc n) w s e
-      go true e rest = goes-on n w s e (rest (served-kept s b _ low high (fitting (w .kernel) b e)) (omega (arith, less w s e)))
+  serves zero w s h = elim (can b w) as (λ x. can b w ≡ x → Served zero b w w) [ true ↦ λ e. absurd (omega (arith, less w s e)) | false ↦ stops zero w s ] refl
+  serves (suc n) w s h =
+      elim (can b w) as (λ x. can b w ≡ x → Served (suc n) b w (serving (suc n) w b)) [
+        | true ↦ λ e. goes-on n w s e (serves n (storeFirst w b) (served-kept s b _ low high (fitting (w .kernel) b e)) (omega (arith, less w s e)))
+        | false ↦ stops (suc n) w s
+      ] refl
 
 -- ---- the drain
 
@@ -179,11 +151,9 @@ turn n w low high d =
     serves n low high tasks w (d .steady) (omega (arith, order-short (w .kernel) (queue sending n), d .steady .invariant .ofTasks .listing .size))
 
 one-more : (n : ℕ) (w : World) → 1 ≤ n → n ≤ buffers → Drained n w → Drained (suc n) (serving tasks w n)
-one-more n w low high d = let r = turn n w low high d in record { steady = r .steady; done = λ c i j. next r c i j (ℕ-discrete c n) }
-  where
-    next : Served tasks n w (serving tasks w n) → (c : ℕ) → 1 ≤ c → c < suc n → Dec (c ≡ n) → can c (serving tasks w n) ≡ false
-    next r c i j (yes e) = rw e (r .done)
-    next r c i j (no m) = r .others c m ∙ d .done c i (omega arith)
+one-more n w low high d =
+    let r = turn n w low high d in
+    record { steady = r .steady; done = λ c i j. elim (ℕ-discrete c n) [ yes e ↦ rw e (r .done) | no m ↦ r .others c m ∙ d .done c i (omega arith) ] }
 
 module _ (w : World) (s : Steady 0 w) where
   pub drained : Steady 0 (drain w) × Each buffers (λ b. firstFits (drain w .kernel) b ≡ false)

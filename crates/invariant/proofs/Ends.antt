@@ -1,19 +1,18 @@
 -- Several waits end; and an object is struck out while tasks wait for it. Ending the waits first and striking it out then gives the same world, so nothing
 -- but the object's own part has to be looked at.
-use Rattle.model.proofs.Terms.{Tasks, Mutexes, Buffers, Pools, effectives, withCurrents, withEnded, withKernel, leave, arrive, recomputeIf, readyQueue, leaveOutbox, ℕ, suc, _≤_, _<_, ℕ-discrete, arith, _≡_, _∙_, refl, sym, ap, subst, _≢_, Bool, true, false, List, [], _∷_, foldl, length, set, length-set, set-set, getD-set-same, getD-set-other, eqb, eq-eqb, ne-eqb, tasks, _!_, member, ready, locking, Kernel, facts, standsIn, World, Nothing, recompute, settled, endWait, endWaits, Priorities}
+use Rattle.model.proofs.Terms.{Tasks, Mutexes, Buffers, Pools, withCurrents, withEnded, withKernel, leave, arrive, recomputeIf, readyQueue, leaveOutbox, ℕ, suc, _≤_, _<_, ℕ-discrete, arith, _≡_, _∙_, refl, sym, ap, subst, _≢_, Bool, true, false, List, [], _∷_, foldl, length, set, length-set, set-set, getD-set-same, getD-set-other, eqb, eq-eqb, ne-eqb, tasks, _!_, member, ready, locking, Kernel, facts, standsIn, World, Nothing, recompute, settled, endWait, endWaits, Priorities}
 use lib.IntN.{ℤ}
 use Rattle.model.proofs.ByCase.{recompute-only}
 use Rattle.model.proofs.ListLaws.{or-left, or-right}
 use Rattle.invariant.specs.Rows.{openTasks, openEnd}
 use Rattle.invariant.specs.Invariant.{Invariant, Steady}
 use Rattle.invariant.proofs.Exchange.{inside}
-use Rattle.invariant.proofs.Parts.{recomputed}
-use Rattle.invariant.proofs.Waits.{priorities-recomputed, priorities-ended, ended}
+use Rattle.invariant.proofs.Waits.{steady-settled, priorities-ended, ended}
 
 -- ---- several waits end
 
 -- one of them, as a step of the loop
-abbrev endOne : ℤ → World → ℕ → World
+abbrev pub endOne : ℤ → World → ℕ → World
 endOne c w t = endWait w t c Nothing
 
 module _ (w : World) (t : ℕ) (c : ℤ) where
@@ -41,21 +40,20 @@ pub record Left (ts : List ℕ) (w v : World) : Type 0 where
   pub steady : Steady 0 v
   pub stays : (u : ℕ) → v .kernel .tasks .place ! u ≢ ready → Stays ts w v u
 
-module _ (c : ℤ) where
-  pub waits-ended : (ts : List ℕ) (w : World) → Steady 0 w → ((u : ℕ) → member u ts ≡ true → Started (w .kernel) u) → Left ts w (endWaits w ts c)
+-- and what the end of each keeps is so after them
+module _ (c : ℤ) (P : World → Type 0) (turn : (w : World) (t : ℕ) → Steady 0 w → Started (w .kernel) t → P w → P (endOne c w t)) where
+  pub waits-ended : (ts : List ℕ) (w : World) → Steady 0 w → ((u : ℕ) → member u ts ≡ true → Started (w .kernel) u) → P w
+      → Left ts w (endWaits w ts c) × P (endWaits w ts c)
   unfolding endWaits
-  waits-ended [] w s h = record { steady = s; stays = λ u n. record { place = refl; object = refl; not-among = refl } }
-  waits-ended (t ∷ ts) w s h =
+  waits-ended [] w s h p = (record { steady = s; stays = λ u n. record { place = refl; object = refl; not-among = refl } }, p)
+  waits-ended (t ∷ ts) w s h p =
       let g = h t (or-left (eqb t t) _ (eq-eqb t t refl)) in
       let l = inside (s .invariant .ofTasks .lists .place) (g .high) in
-      let r = waits-ended ts v (ended s t (g .low) (g .high) c Nothing (omega (arith, g .started))) (λ u m. still l u (h u (or-right (eqb u t) _ m))) in
-      record { steady = r .steady; stays = λ u n. back l u n (r .stays u n) (ℕ-discrete u t) }
+      let r = waits-ended ts v (ended s t (g .low) (g .high) c Nothing (omega (arith, g .started))) (λ u m. still l u (h u (or-right (eqb u t) _ m))) (turn w t s g p) in
+      (record { steady = r .0 .steady; stays = λ u n. back l u n (r .0 .stays u n) }, r .1)
     where
       v : World
       v = endOne c w t
-
-      last : World
-      last = foldl (endOne c) v ts
 
       here : t < length (w .kernel .tasks .place) → v .kernel .tasks .place ! t ≡ ready
       here l = ap (λ (xs : List ℕ). xs ! t) (ended-place w t c) ∙ getD-set-same (w .kernel .tasks .place) t ready 0 l
@@ -64,20 +62,20 @@ module _ (c : ℤ) where
       there u d = ap (λ (xs : List ℕ). xs ! u) (ended-place w t c) ∙ getD-set-other (w .kernel .tasks .place) t u ready 0 d
 
       still : t < length (w .kernel .tasks .place) → (u : ℕ) → Started (w .kernel) u → Started (v .kernel) u
-      still l u h = record { low = h .low; high = h .high; started = go (ℕ-discrete u t) }
-        where
-          go : Dec (u ≡ t) → ready ≤ v .kernel .tasks .place ! u
-          go (yes e) = rw (e, here l) (omega arith)
-          go (no n) = rw (there u n) (h .started)
+      still l u h =
+          record { low = h .low; high = h .high; started = elim (ℕ-discrete u t) [ yes e ↦ rw (e, here l) (omega arith) | no n ↦ rw (there u n) (h .started) ] }
 
-      back : t < length (w .kernel .tasks .place) → (u : ℕ) → last .kernel .tasks .place ! u ≢ ready → Stays ts v last u → Dec (u ≡ t) → Stays (t ∷ ts) w last u
-      back l u n r (yes e) = absurd (n (sym (r .place) ∙ ap (λ (x : ℕ). v .kernel .tasks .place ! x) e ∙ here l))
-      back l u n r (no d) =
-          record {
-            place = sym (there u d) ∙ r .place;
-            object = sym (ap (λ (xs : List ℕ). xs ! u) (ended-object w t c) ∙ getD-set-other (w .kernel .tasks .object) t u 0 0 d) ∙ r .object;
-            not-among = rw (ne-eqb u t d) (r .not-among);
-          }
+      back : t < length (w .kernel .tasks .place) → (u : ℕ) {last : World} → last .kernel .tasks .place ! u ≢ ready → Stays ts v last u → Stays (t ∷ ts) w last u
+      back l u n r =
+          elim (ℕ-discrete u t) [
+            | yes e ↦ absurd (n (sym (r .place) ∙ ap (λ (x : ℕ). v .kernel .tasks .place ! x) e ∙ here l))
+            | no d ↦
+                record {
+                  place = sym (there u d) ∙ r .place;
+                  object = sym (ap (λ (xs : List ℕ). xs ! u) (ended-object w t c) ∙ getD-set-other (w .kernel .tasks .object) t u 0 0 d) ∙ r .object;
+                  not-among = rw (ne-eqb u t d) (r .not-among);
+                }
+          ]
 
 -- ---- an object is struck out
 
@@ -94,26 +92,22 @@ exchanged current m b p store w =
       ended = w .ended;
     }
 
-module _ (before after : List ℕ) (m : Mutexes → Mutexes) (b : Buffers → Buffers) (p : Pools → Pools) (store : List ℕ → List ℕ) (c : ℤ) (w : World) (t : ℕ) where
-  exchanged-step : settled (endOne c (exchanged before m b p store w) t) ≡ settled (exchanged after m b p store (endOne c w t))
-  unfolding settled leaveOutbox recompute facts standsIn openEnd
-  exchanged-step = go (eqb (w .kernel .tasks .place ! t) locking)
-    where
-      over : Bool → World → World
-      over x v = withEnded (withKernel (leave v t) (recomputeIf x (arrive (leave v t .kernel) t readyQueue))) t c Nothing
+module _ (m : Mutexes → Mutexes) (b : Buffers → Buffers) (p : Pools → Pools) (store : List ℕ → List ℕ) (c : ℤ) where
+  exchanged-step : (current : List ℕ) (w : World) (t : ℕ)
+      → endOne c (exchanged current m b p store w) t ≡ exchanged (endOne c (exchanged current m b p store w) t .kernel .tasks .current) m b p store (endOne c w t)
+  unfolding leaveOutbox recompute openEnd
+  exchanged-step current w t =
+      let over : Bool → World → World = λ x v. withEnded (withKernel (leave v t) (recomputeIf x (arrive (leave v t .kernel) t readyQueue))) t c Nothing in
+      let v = exchanged current m b p store w in
+      elim (eqb (w .kernel .tasks .place ! t) locking) as (λ x. over x v ≡ exchanged (over x v .kernel .tasks .current) m b p store (over x w))
+      [ true ↦ unfold recomputeIf in refl | false ↦ unfold recomputeIf in refl ]
 
-      go : (x : Bool) → settled (over x (exchanged before m b p store w)) ≡ settled (exchanged after m b p store (over x w))
-      go true = unfold recomputeIf in refl
-      go false = unfold recomputeIf in refl
-
-settled-step : (c : ℤ) (w : World) (t : ℕ) → settled (endOne c (settled w) t) ≡ settled (endOne c w t)
-unfolding settled recompute facts standsIn openEnd
-settled-step c w t = exchanged-step (effectives (facts (w .kernel))) [] (λ x. x) (λ x. x) (λ x. x) (λ x. x) c w t
-
-settled-fold : (c : ℤ) (ts : List ℕ) (w : World) → settled (foldl (endOne c) (settled w) ts) ≡ settled (foldl (endOne c) w ts)
-settled-fold c [] w = unfold settled withKernel recompute facts standsIn openTasks in refl
-settled-fold c (t ∷ ts) w =
-    sym (settled-fold c ts (endOne c (settled w) t)) ∙ ap (λ (v : World). settled (foldl (endOne c) v ts)) (settled-step c w t) ∙ settled-fold c ts (endOne c w t)
+  exchanged-fold : (ts current : List ℕ) (w : World)
+      → (after : List ℕ) × (foldl (endOne c) (exchanged current m b p store w) ts ≡ exchanged after m b p store (foldl (endOne c) w ts))
+  exchanged-fold [] current w = (current, refl)
+  exchanged-fold (t ∷ ts) current w =
+      let r = exchanged-fold ts _ (endOne c w t) in
+      (r .0, ap (λ (v : World). foldl (endOne c) v ts) (exchanged-step current w t) ∙ r .1)
 
 -- a world whose priorities are the effective ones is settled already
 settled-same : (w : World) → Priorities (w .kernel) → settled w ≡ w
@@ -133,25 +127,20 @@ module _ (m : Mutexes → Mutexes) (b : Buffers → Buffers) (p : Pools → Pool
   abbrev pub strike : World → World
   strike w = exchanged (w .kernel .tasks .current) m b p store w
 
-  struck-fold : (c : ℤ) (ts : List ℕ) (w : World) → settled (foldl (endOne c) (strike w) ts) ≡ settled (strike (foldl (endOne c) w ts))
-  struck-fold c [] w = refl
-  struck-fold c (t ∷ ts) w =
-      sym (settled-fold c ts (endOne c (strike w) t)) ∙ ap (λ (v : World). settled (foldl (endOne c) v ts)) (exchanged-step _ _ m b p store c w t)
-      ∙ settled-fold c ts (strike (endOne c w t)) ∙ struck-fold c ts (endOne c w t)
+  module _ (c : ℤ) (ts : List ℕ) (w first : World) (same : settled first ≡ settled (strike w)) where
+    pub struck-alike : settled (endWaits first ts c) ≡ settled (strike (endWaits w ts c))
+    unfolding endWaits settled withKernel recompute facts standsIn openTasks
+    struck-alike =
+        let now = first .kernel .tasks .current in
+        let is : first ≡ exchanged now m b p store w = ap (exchanged now (λ x. x) (λ x. x) (λ x. x) (λ x. x)) same in
+        ap (λ (v : World). settled (foldl (endOne c) v ts)) is ∙ ap settled (exchanged-fold m b p store c ts now w .1)
 
-  pub struck-out : (c : ℤ) (ts : List ℕ) (w first : World)
-      → settled first ≡ settled (strike w) → Priorities (first .kernel) → first .kernel .tasks .place ≡ w .kernel .tasks .place → Steady 0 w
-      → ((u : ℕ) → member u ts ≡ true → Started (w .kernel) u)
-      → (Left ts w (endWaits w ts c) → Invariant 0 (strike (endWaits w ts c) .kernel) (strike (endWaits w ts c) .store) (strike (endWaits w ts c) .outbox))
-      → Steady 0 (endWaits first ts c)
-  unfolding endWaits
-  struck-out c ts w first same priorities places s started kept =
-      subst (Steady 0) (sym is) (settles (strike (foldl (endOne c) w ts)) (kept (waits-ended c ts w s started)))
-    where
-      is : foldl (endOne c) first ts ≡ settled (strike (foldl (endOne c) w ts))
-      is =
-          sym (settled-same _ (priorities-fold c ts first (ap length places ∙ s .invariant .ofTasks .lists .place .long) (λ u m. let g = started u m in (g .low, g .high)) priorities))
-          ∙ sym (settled-fold c ts first) ∙ ap (λ (v : World). settled (foldl (endOne c) v ts)) same ∙ settled-fold c ts (strike w) ∙ struck-fold c ts w
-
-      settles : (v : World) → Invariant 0 (v .kernel) (v .store) (v .outbox) → Steady 0 (settled v)
-      settles v i = unfold settled withKernel in (record { invariant = recomputed i; priorities = priorities-recomputed (v .kernel) })
+    pub struck-out : Priorities (first .kernel) → first .kernel .tasks .place ≡ w .kernel .tasks .place → Steady 0 w → ((u : ℕ) → member u ts ≡ true → Started (w .kernel) u)
+        → (Left ts w (endWaits w ts c) → Invariant 0 (strike (endWaits w ts c) .kernel) (strike (endWaits w ts c) .store) (strike (endWaits w ts c) .outbox))
+        → Steady 0 (endWaits first ts c)
+    unfolding endWaits withKernel
+    struck-out priorities places s started kept =
+        let long = ap length places ∙ s .invariant .ofTasks .lists .place .long in
+        let same = settled-same _ (priorities-fold c ts first long (λ u m. let g = started u m in (g .low, g .high)) priorities) in
+        subst (Steady 0) (sym struck-alike ∙ same)
+        (steady-settled (strike (endWaits w ts c)) (kept (waits-ended c (λ v. Unit) (λ v t h g p. tt) ts w s started tt .0)))

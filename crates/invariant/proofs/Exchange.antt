@@ -1,5 +1,6 @@
 -- One row of a kind's lists is exchanged: it is the new row at its number, and every other row is as it was. Over any kind.
-use Rattle.model.proofs.Terms.{ℕ, zero, suc, _≤_, _<_, ℕ-discrete, decLe, arith, _≡_, _∙_, sym, subst, _≢_, List, length, set, length-set, List·getD-eq-default, getD-set-same, getD-set-other, tasks, mutexes, buffers, pools, _!_, Tasks, Mutexes, Buffers, Pools, Each, ByNumber, TaskLists, MutexLists, BufferLists, PoolLists}
+use Rattle.model.proofs.Terms.{ℕ, _≤_, _<_, ℕ-discrete, arith, _≡_, _∙_, sym, ap, subst, _≢_, List, length, set, length-set, getD-set-same, getD-set-other, tasks, mutexes, buffers, pools, _!_, Tasks, Mutexes, Buffers, Pools, Each, ByNumber, TaskLists, MutexLists, BufferLists, PoolLists}
+use Rattle.model.proofs.ListLaws.{entry-inside}
 use Rattle.invariant.specs.Rows.{TaskRow, MutexRow, BufferRow, PoolRow, taskRows, mutexRows, bufferRows, poolRows, withTaskRow, withMutexRow, withBufferRow, withPoolRow}
 
 -- ---- any rows
@@ -11,11 +12,7 @@ pub record Exchanged {R : Type 0} (f g : ℕ → R) (n : ℕ) (r : R) : Type 0 w
 module _ {R : Type 0} {f g : ℕ → R} {n : ℕ} {r : R} (e : Exchanged f g n r) where
   -- what holds of the new row there, and elsewhere of the old ones
   pub at-row : (C : R → Type 0) (u : ℕ) → (u ≡ n → C r) → (u ≢ n → C (f u)) → C (g u)
-  at-row C u here there = go (ℕ-discrete u n)
-    where
-      go : Dec (u ≡ n) → C (g u)
-      go (yes q) = subst (λ (v : ℕ). C (g v)) (sym q) (subst C (sym (e .same)) (here q))
-      go (no d) = subst C (sym (e .other u d)) (there d)
+  at-row C u here there = elim (ℕ-discrete u n) [ yes q ↦ rw (q, e .same) (here q) | no d ↦ rw (e .other u d) (there d) ]
 
   pub each-row : (last : ℕ) (C : ℕ → R → Type 0) → Each last (λ u. C u (f u)) → C n r → Each last (λ u. C u (g u))
   each-row last C h c u i j = at-row (C u) u (λ q. subst (λ (v : ℕ). C v r) (sym q) c) (λ d. h u i j)
@@ -28,15 +25,9 @@ module _ {last n : ℕ} {xs : List ℕ} (l : ByNumber last xs) where
 
   -- an entry that is not zero is a number's
   pub numbers : xs ! n ≢ 0 → (1 ≤ n) × (n ≤ last)
-  numbers d = (positive n d, small (decLe n last))
-    where
-      positive : (m : ℕ) → xs ! m ≢ 0 → 1 ≤ m
-      positive zero z = absurd (z (l .noneZero))
-      positive (suc m) z = omega arith
-
-      small : Dec (n ≤ last) → n ≤ last
-      small (yes h) = h
-      small (no h) = absurd (d (List·getD-eq-default xs 0 (omega (arith, l .long))))
+  numbers d =
+      let positive : n ≢ 0 = λ z. d (ap (λ (m : ℕ). xs ! m) z ∙ l .noneZero) in
+      (omega arith, omega (arith, entry-inside xs n d, l .long))
 
   pub set-by-number : 1 ≤ n → (v : ℕ) → ByNumber last (set xs n v)
   set-by-number low v = record { long = length-set xs n v ∙ l .long; noneZero = getD-set-other xs n 0 v 0 (λ (z : 0 ≡ n). omega arith) ∙ l .noneZero }

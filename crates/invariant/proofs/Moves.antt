@@ -1,8 +1,9 @@
 -- A task's row changes: it goes from one place to another, gets another base or another time, is created or deleted.
-use Rattle.model.proofs.Terms.{ℕ, _-_, _≤_, _<_, arith, _≡_, _∙_, refl, sym, subst, _≢_, _⊎_, inl, inr, List, set, drop, set-getD, tasks, mutexes, priorities, messageBytes, _!_, zeros, Queue, queue, absent, dormant, ready, locking, sending, receiving, getting, Kernel, Tasks, slot, withTasks, withArrivals, withPlace, withInitial, withBase, withCurrent, withLeft, part, Each, From}
+use mathlib.Core.Logic.{⊎-elim}
+use Rattle.model.proofs.Terms.{ℕ, _-_, _≤_, _<_, arith, _≡_, _∙_, refl, sym, subst, _≢_, _⊎_, inl, inr, List, set, drop, set-getD, tasks, mutexes, priorities, messageBytes, _!_, zeros, Queue, queue, absent, dormant, ready, locking, sending, receiving, getting, Kernel, slot, withTasks, withArrivals, withPlace, withInitial, withBase, withCurrent, withLeft, part, Each, From}
 use Rattle.queue.proofs.Listing.{Listing}
 use Rattle.invariant.specs.Rows.{TaskRow, taskRows, mutexRows, bufferRows, poolRows, withTaskRow, openTasks}
-use Rattle.invariant.specs.Invariant.{Range, Lasting, TaskKept, Under, Holding, Locks, Sends, Receives, Gets, Invariant}
+use Rattle.invariant.specs.Invariant.{Lasting, TaskKept, Under, Holding, Locks, Sends, Receives, Gets, Invariant}
 use Rattle.invariant.proofs.Parts.{TaskFits, Boxed, task-exchanged}
 
 -- a kernel in which one task has another row, and the arrivals may be others
@@ -64,17 +65,13 @@ module _ {exiting : ℕ} {k : Kernel} {store outbox : List ℕ} (v : Invariant e
 
   -- a task that is there has its entries in range
   there : dormant ≤ row .place → From dormant getting (row .place) × From 1 priorities (row .initial) × From 1 priorities (row .base)
-  there h = go (own .range)
-    where
-      go : Range row → From dormant getting (row .place) × From 1 priorities (row .initial) × From 1 priorities (row .base)
-      go (inl g) = absurd (omega (arith, g .0))
-      go (inr g) = g
+  there h = ⊎-elim (λ g. absurd (omega (arith, g .0))) (λ g. g) (own .range)
 
-  -- what it holds does not change with its place, unless it falls dormant
-  holding : (place : ℕ) → ready ≤ place → Each mutexes (λ m. k .mutexes .holder ! m ≡ t → t ≢ exiting → Holding (mutexRows (k .mutexes) m) place (row .base))
-  holding place h m i j q n =
-      let x = v .ofMutexes .held m i j (λ (z : k .mutexes .holder ! m ≡ 0). omega arith) (λ o. n (sym q ∙ o)) in
-      record { started = h; under = subst (λ (u : ℕ). Under (mutexRows (k .mutexes) m) (k .tasks .base ! u)) q (x .under) }
+  -- what it means to hold a mutex
+  holding : Each mutexes (λ m. k .mutexes .holder ! m ≡ t → t ≢ exiting → Holding (mutexRows (k .mutexes) m) (row .place) (row .base))
+  holding m i j q n =
+      subst (λ (u : ℕ). Holding (mutexRows (k .mutexes) m) (k .tasks .place ! u) (k .tasks .base ! u)) q
+      (v .ofMutexes .held m i j (λ (z : k .mutexes .holder ! m ≡ 0). omega arith) (λ o. n (sym q ∙ o)))
 
   pub moves : (q : Queue) (argument left : ℕ) {ts outbox′ : List ℕ} → dormant ≤ k .tasks .place ! t → From dormant getting (q .place) → (ready ≤ q .place) ⊎ (t ≡ exiting)
       → Meets k t q argument → Time q left → (q .place ≢ sending → argument ≡ 0) → Listing (set (k .tasks .place) t (q .place)) ts
@@ -84,7 +81,7 @@ module _ {exiting : ℕ} {k : Kernel} {store outbox : List ℕ} (v : Invariant e
   moves q argument left was place stays meets time silent listing boxed bytes =
       task-exchanged v t low high (movedRow row q argument left) (k .tasks .current ! t)
       (record {
-        holds = held stays;
+        holds = λ m i j e n. record { started = ⊎-elim (λ h. h) (λ o. absurd (n o)) stays; under = holding m i j e n .under };
         locks = meets .locks;
         sends = λ e. meets .sends e .0;
         receives = λ e. meets .receives e .0;
@@ -92,33 +89,23 @@ module _ {exiting : ℕ} {k : Kernel} {store outbox : List ℕ} (v : Invariant e
         gets = meets .gets;
       })
       listing (record { range = inr (place, there was .1, there was .2); time = time; silent = silent; boxed = bytes }) boxed
-    where
-      held : (ready ≤ q .place) ⊎ (t ≡ exiting) → Each mutexes (λ m. k .mutexes .holder ! m ≡ t → t ≢ exiting → Holding (mutexRows (k .mutexes) m) (q .place) (row .base))
-      held (inl h) = holding (q .place) h
-      held (inr o) = λ m i j e n. absurd (n o)
 
   -- another base, another time: the task stays where it is
   module _ (base left : ℕ) where
-    abbrev stayedRow : TaskRow
+    abbrev pub stayedRow : TaskRow
     stayedRow = record { place = row .place; object = row .object; argument = row .argument; initial = row .initial; base = base; left = left }
 
     stays : Each mutexes (λ m. k .mutexes .holder ! m ≡ t → t ≢ exiting → Under (mutexRows (k .mutexes) m) base)
         → (row .place ≡ locking → Under (mutexRows (k .mutexes) (row .object)) base) → TaskFits exiting k t stayedRow
     stays held awaited =
         record {
-          holds = λ m i j q n.
-              let x = v .ofMutexes .held m i j (λ (z : k .mutexes .holder ! m ≡ 0). omega arith) (λ o. n (sym q ∙ o)) in
-              record { started = subst (λ (u : ℕ). ready ≤ k .tasks .place ! u) q (x .started); under = held m i j q n };
+          holds = λ m i j q n. record { started = holding m i j q n .started; under = held m i j q n };
           locks = λ e. let x = v .ofMutexes .waits t low high e in record { there = x .there; taken = x .taken; other = x .other; under = awaited e };
           sends = v .ofBuffers .sends t low high;
           receives = v .ofBuffers .receives t low high;
           apart = λ s i j. (v .ofBuffers .apart t low high s i j, v .ofBuffers .apart s i j t low high);
           gets = v .ofPools .waits t low high;
         }
-
-  -- places as they are, in the list of them
-  same-place : {ts : List ℕ} → Listing (k .tasks .place) ts → Listing (set (k .tasks .place) t (row .place)) ts
-  same-place {ts} g = subst (λ (xs : List ℕ). Listing xs ts) (sym (set-getD (k .tasks .place) t 0)) g
 
   -- the base of a task that is there, not above a ceiling that binds it; it may count as arriving anew
   pub based : (base : ℕ) {ts : List ℕ} → dormant ≤ k .tasks .place ! t → From 1 priorities base
@@ -127,75 +114,44 @@ module _ {exiting : ℕ} {k : Kernel} {store outbox : List ℕ} (v : Invariant e
       → Invariant exiting (withArrivals (withBase k t base) ts) store outbox
   unfolding openTasks
   based base {ts} was range held awaited listing =
-      subst (λ (x : Tasks). Invariant exiting (withArrivals (withTasks k x) ts) store outbox) is
-      (task-exchanged v t low high (stayedRow base (row .left)) (k .tasks .current ! t) (stays base (row .left) held awaited) (same-place listing)
+      rw (set-getD, set-getD, set-getD, set-getD, set-getD, set-getD) at
+      (task-exchanged v t low high (stayedRow base (row .left)) (k .tasks .current ! t) {ts = ts} (stays base (row .left) held awaited) (rw set-getD listing)
       (record { range = inr (there was .0, there was .1, range); time = own .time; silent = own .silent; boxed = own .boxed }) same-box)
-    where
-      is : withTaskRow (k .tasks) t (stayedRow base (row .left)) (k .tasks .current ! t) ≡ withBase k t base .tasks
-      is = let x = k .tasks in
-          rw (set-getD (x .place) t 0, set-getD (x .object) t 0, set-getD (x .argument) t 0, set-getD (x .initial) t 0, set-getD (x .current) t 0, set-getD (x .left) t 0)
 
   -- the time of a wait
   pub timed : (left : ℕ) → locking ≤ row .place → Lasting left → Invariant exiting (withLeft k t left) store outbox
   unfolding openTasks
   timed left waits good =
-      subst (λ (x : Tasks). Invariant exiting (withTasks k x) store outbox) is
-      (task-exchanged v t low high (stayedRow (row .base) left) (k .tasks .current ! t)
-      (stays (row .base) left (λ m i j q n. holding (row .place) (omega arith) m i j q n .under) (λ e. v .ofMutexes .waits t low high e .under)) (same-place (v .ofTasks .listing))
+      rw (set-getD, set-getD, set-getD, set-getD, set-getD, set-getD) at
+      (task-exchanged v t low high (stayedRow (row .base) left) (k .tasks .current ! t) {ts = k .arrivals}
+      (stays (row .base) left (λ m i j q n. holding m i j q n .under) (λ e. v .ofMutexes .waits t low high e .under)) (rw set-getD (v .ofTasks .listing))
       (record { range = own .range; time = inr (waits, good); silent = own .silent; boxed = own .boxed }) same-box)
-    where
-      is : withTaskRow (k .tasks) t (stayedRow (row .base) left) (k .tasks .current ! t) ≡ withLeft k t left .tasks
-      is = let x = k .tasks in
-          rw (set-getD (x .place) t 0, set-getD (x .object) t 0, set-getD (x .argument) t 0, set-getD (x .initial) t 0, set-getD (x .base) t 0, set-getD (x .current) t 0)
 
   -- a task that is not started is created or deleted
   module _ (was : row .place < ready) where
     pub holds-nothing : t ≢ exiting → Each mutexes (λ m. k .mutexes .holder ! m ≢ t)
-    holds-nothing n m i j q =
-        let x = v .ofMutexes .held m i j (λ (z : k .mutexes .holder ! m ≡ 0). omega arith) (λ o. n (sym q ∙ o)) in
-        let h = subst (λ (u : ℕ). ready ≤ k .tasks .place ! u) q (x .started) in
-        omega arith
-
-    waits-not : (row .object ≡ 0) × (row .left ≡ 0)
-    waits-not = go (own .time)
-      where
-        go : Time (queue (row .place) (row .object)) (row .left) → (row .object ≡ 0) × (row .left ≡ 0)
-        go (inl g) = (g .1, g .2)
-        go (inr g) = absurd (omega (arith, g .0))
+    holds-nothing n m i j q = omega (arith, holding m i j q n .started)
 
     pub retasked : (place p : ℕ) → t ≢ exiting → Unstarted place p → Listing (set (k .tasks .place) t place) (k .arrivals)
         → Invariant exiting (withCurrent (withBase (withInitial (withPlace k t place) t p) t p) t p) store outbox
     unfolding openTasks
     retasked place p n good listing =
-        subst (λ (x : Tasks). Invariant exiting (withTasks k x) store outbox) is
-        (task-exchanged v t low high r p
+        let small : place < ready = ⊎-elim (λ g. omega (arith, g .0)) (λ g. omega (arith, g .0)) good in
+        rw (set-getD, set-getD, set-getD) at
+        (task-exchanged v t low high (record { place = place; object = row .object; argument = row .argument; initial = p; base = p; left = row .left }) p
         (record {
           holds = λ m i j q o. absurd (holds-nothing n m i j q);
-          locks = λ e. absurd (let s = small good in omega arith);
-          sends = λ e. absurd (let s = small good in omega arith);
-          receives = λ e. absurd (let s = small good in omega arith);
-          apart = λ u i j. ((λ e f. absurd (let s = small good in omega arith)), (λ e f. absurd (let s = small good in omega arith)));
-          gets = λ e. absurd (let s = small good in omega arith);
+          locks = λ e. absurd (omega arith);
+          sends = λ e. absurd (omega arith);
+          receives = λ e. absurd (omega arith);
+          apart = λ u i j. ((λ e f. absurd (omega arith)), (λ e f. absurd (omega arith)));
+          gets = λ e. absurd (omega arith);
         })
         listing
         (record {
-          range = ranges good;
-          time = inl (let s = small good in omega arith, waits-not .0, waits-not .1);
+          range = ⊎-elim (λ g. inl (g .0, g .1, g .1)) (λ g. inr (omega (arith, g .0), g .1, g .1)) good;
+          time = ⊎-elim (λ g. inl (omega arith, g .1, g .2)) (λ g. absurd (omega (arith, g .0))) (own .time);
           silent = λ e. own .silent (λ (z : row .place ≡ sending). omega arith);
           boxed = own .boxed;
         })
         same-box)
-      where
-        r : TaskRow
-        r = record { place = place; object = row .object; argument = row .argument; initial = p; base = p; left = row .left }
-
-        small : Unstarted place p → place < ready
-        small (inl g) = omega (arith, g .0)
-        small (inr g) = omega (arith, g .0)
-
-        ranges : Unstarted place p → Range r
-        ranges (inl g) = inl (g .0, g .1, g .1)
-        ranges (inr g) = inr (omega (arith, g .0), g .1, g .1)
-
-        is : withTaskRow (k .tasks) t r p ≡ withCurrent (withBase (withInitial (withPlace k t place) t p) t p) t p .tasks
-        is = let x = k .tasks in rw (set-getD (x .object) t 0, set-getD (x .argument) t 0, set-getD (x .left) t 0)

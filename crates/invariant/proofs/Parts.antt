@@ -1,9 +1,10 @@
 -- What is left to show where one row of one kind is exchanged: the new row's own clauses, and what it means to those that look at it. All else stays.
-use Rattle.model.proofs.Terms.{ℕ, zero, suc, _+_, _*_, _≤_, _<_, ℕ-discrete, arith, _≡_, _∙_, refl, sym, ap, subst, _≢_, _⊎_, inl, inr, List, map, length, set, getD-set-other, tasks, mutexes, buffers, pools, blocks, messageBytes, poolBytes, _!_, countFrom, upTo, sum, locking, sending, receiving, getting, Kernel, Pools, slot, withTasks, withArrivals, withMutexes, withBuffers, withPools, effectives, recompute, part, region, Each, From, TaskLists, Layout}
+use mathlib.Core.Logic.{⊎-elim}
+use Rattle.model.proofs.Terms.{ℕ, zero, suc, _+_, _*_, _≤_, _<_, ℕ-discrete, arith, _≡_, _∙_, refl, sym, ap, subst, _≢_, _⊎_, List, map, length, set, getD-set-other, tasks, mutexes, buffers, pools, blocks, messageBytes, poolBytes, _!_, countFrom, upTo, sum, locking, sending, receiving, getting, Kernel, Pools, slot, withTasks, withArrivals, withMutexes, withBuffers, withPools, effectives, recompute, part, region, Each, From, TaskLists, Layout}
 use Rattle.model.proofs.ListLaws.{map-agree}
 use Rattle.queue.proofs.Listing.{Listing}
 use Rattle.invariant.specs.Rows.{TaskRow, MutexRow, BufferRow, PoolRow, taskRows, mutexRows, bufferRows, poolRows, withTaskRow, withMutexRow, withBufferRow, withPoolRow, openTasks}
-use Rattle.invariant.specs.Invariant.{TaskKept, MutexShape, Holding, HeldBy, Locks, BufferShape, Sends, Receives, Apart, PoolShape, Gets, Invariant}
+use Rattle.invariant.specs.Invariant.{TaskKept, TasksKept, MutexShape, Holding, HeldBy, Locks, BufferShape, Sends, Receives, Apart, PoolShape, Gets, Invariant}
 use Rattle.invariant.proofs.Exchange.{Exchanged, at-row, each-row, numbers, set-here, task-row, task-lists, mutex-row, mutex-lists, buffer-row, buffer-lists, pool-row, pool-lists}
 
 -- a task's new row, to the parts that look at it
@@ -24,16 +25,11 @@ pub record Boxed (t : ℕ) (outbox outbox′ : List ℕ) : Type 0 where
 sum-but-one : (f g : ℕ → ℕ) (p a n : ℕ) → a ≤ p → p < a + n → ((q : ℕ) → q ≢ p → f q ≡ g q)
     → sum (map f (countFrom a n)) + g p ≡ sum (map g (countFrom a n)) + f p
 sum-but-one f g p a zero i j h = absurd (omega arith)
-sum-but-one f g p a (suc n) i j h = go (ℕ-discrete a p) (λ l r. sum-but-one f g p (suc a) n l r h)
-  where
-    go : Dec (a ≡ p) → (suc a ≤ p → p < suc a + n → sum (map f (countFrom (suc a) n)) + g p ≡ sum (map g (countFrom (suc a) n)) + f p)
-        → (f a + sum (map f (countFrom (suc a) n))) + g p ≡ (g a + sum (map g (countFrom (suc a) n))) + f p
-    go (yes e) rest =
-        let s = ap sum (map-agree f g (suc a) n (λ q x y. h q (λ (z : q ≡ p). omega arith))) in
-        let y = ap f e in
-        let z = ap g e in
-        omega arith
-    go (no d) rest = let s = rest (omega arith) (omega arith) in let r = h a d in omega arith
+sum-but-one f g p a (suc n) i j h =
+    elim (ℕ-discrete a p) [
+      | yes e ↦ omega (arith, ap sum (map-agree f g (suc a) n (λ q x y. h q (λ (z : q ≡ p). omega arith))), ap f e, ap g e)
+      | no d ↦ omega (arith, sum-but-one f g p (suc a) n (omega arith) (omega arith) h, h a d)
+    ]
 
 module _ {exiting : ℕ} {k : Kernel} {store outbox : List ℕ} (v : Invariant exiting k store outbox) where
   abbrev rows : ℕ → TaskRow
@@ -43,15 +39,12 @@ module _ {exiting : ℕ} {k : Kernel} {store outbox : List ℕ} (v : Invariant e
   pub recomputed : Invariant exiting (recompute k) store outbox
   unfolding recompute effectives openTasks
   recomputed =
-      let l = v .ofTasks .lists in
+      let x = v .ofTasks in
+      let l = x .lists in
       let lists : TaskLists (recompute k .tasks) =
       record { place = l .place; object = l .object; argument = l .argument; initial = l .initial; base = l .base; current = record { long = refl; noneZero = refl }; left = l .left } in
-      record {
-        ofTasks = record { lists = lists; listing = v .ofTasks .listing; size = v .ofTasks .size; each = v .ofTasks .each };
-        ofMutexes = v .ofMutexes;
-        ofBuffers = v .ofBuffers;
-        ofPools = v .ofPools;
-      }
+      let kept : TasksKept (recompute k .tasks) (k .arrivals) outbox = record { lists = lists; listing = x .listing; size = x .size; each = x .each } in
+      record { ofTasks = kept; ofMutexes = v .ofMutexes; ofBuffers = v .ofBuffers; ofPools = v .ofPools }
 
   -- another task is exiting, or none any more
   pub exiting-exchanged : (other : ℕ) → Each mutexes (λ m. HeldBy other rows (mutexRows (k .mutexes) m)) → Invariant other k store outbox
@@ -60,10 +53,7 @@ module _ {exiting : ℕ} {k : Kernel} {store outbox : List ℕ} (v : Invariant e
       record { ofTasks = v .ofTasks; ofMutexes = record { lists = x .lists; shape = x .shape; held = h; waits = x .waits }; ofBuffers = v .ofBuffers; ofPools = v .ofPools }
 
   module _ (t : ℕ) (low : 1 ≤ t) (high : t ≤ tasks) (r : TaskRow) (c : ℕ) where
-    abbrev rows′ : ℕ → TaskRow
-    rows′ = taskRows (withTaskRow (k .tasks) t r c)
-
-    new-row : Exchanged rows rows′ t r
+    new-row : Exchanged rows (taskRows (withTaskRow (k .tasks) t r c)) t r
     new-row = task-row (k .tasks) (v .ofTasks .lists) t r c high
 
     pub task-exchanged : {ts outbox′ : List ℕ} → TaskFits exiting k t r → Listing (set (k .tasks .place) t (r .place)) ts
@@ -98,8 +88,8 @@ module _ {exiting : ℕ} {k : Kernel} {store outbox : List ℕ} (v : Invariant e
                 layout = x .layout;
                 sends = each-row new-row tasks (λ u s. s .place ≡ sending → Sends (bufferRows (k .buffers) (s .object)) (s .argument)) (x .sends) (f .sends);
                 receives = each-row new-row tasks (λ u s. s .place ≡ receiving → Receives (bufferRows (k .buffers) (s .object))) (x .receives) (f .receives);
-                apart = λ u i j s i′ j′. at-row new-row (λ (a : TaskRow). Apart a (rows′ s)) u
-                    (λ q. at-row new-row (Apart r) s (λ e. not-both) (λ d. f .apart s i′ j′ .0))
+                apart = λ u i j s i′ j′. at-row new-row (λ (a : TaskRow). Apart a (taskRows (withTaskRow (k .tasks) t r c) s)) u
+                    (λ q. at-row new-row (Apart r) s (λ e y z. absurd (omega arith)) (λ d. f .apart s i′ j′ .0))
                     (λ d. at-row new-row (Apart (rows u)) s (λ e. f .apart u i j .1) (λ e. x .apart u i j s i′ j′));
               };
           ofPools =
@@ -113,9 +103,6 @@ module _ {exiting : ℕ} {k : Kernel} {store outbox : List ℕ} (v : Invariant e
                 waits = each-row new-row tasks (λ u s. s .place ≡ getting → Gets (poolRows (k .pools) (s .object)) (λ b. k .pools .taken ! slot (s .object) b)) (x .waits) (f .gets);
               };
         }
-      where
-        not-both : Apart r r
-        not-both = λ p q. absurd (omega arith)
 
   module _ (m : ℕ) (low : 1 ≤ m) (high : m ≤ mutexes) (r : MutexRow) where
     pub mutex-exchanged : MutexShape r → HeldBy exiting rows r
@@ -170,9 +157,6 @@ module _ {exiting : ℕ} {k : Kernel} {store outbox : List ℕ} (v : Invariant e
     abbrev old : Pools
     old = k .pools
 
-    abbrev new : Pools
-    new = withPoolRow old p r taken′
-
     pub pool-exchanged : PoolShape r → length taken′ ≡ length (old .taken)
         → ((b : ℕ) → b ≤ blocks → (taken′ ! slot p b ≡ 0) ⊎ ((taken′ ! slot p b ≡ 1) × From 1 (r .count) b))
         → ((q b : ℕ) → q ≢ p → b ≤ blocks → taken′ ! slot q b ≡ old .taken ! slot q b)
@@ -183,6 +167,10 @@ module _ {exiting : ℕ} {k : Kernel} {store outbox : List ℕ} (v : Invariant e
     pool-exchanged shape size flags others room waits =
         let x = v .ofPools in
         let e = pool-row old (x .lists) p r taken′ high in
+        let f : ℕ → ℕ = λ q. old .count ! q * old .size ! q in
+        let g : ℕ → ℕ = λ q. set (old .count) p (r .count) ! q * set (old .size) p (r .size) ! q in
+        let others-same : (q : ℕ) → q ≢ p → f q ≡ g q = λ q d. rw (getD-set-other (old .count) p q (r .count) 0 d, getD-set-other (old .size) p q (r .size) 0 d) in
+        let here : g p ≡ r .count * r .size = rw (set-here (x .lists .count) high (r .count), set-here (x .lists .size) high (r .size)) in
         record {
           ofTasks = v .ofTasks;
           ofMutexes = v .ofMutexes;
@@ -195,29 +183,17 @@ module _ {exiting : ℕ} {k : Kernel} {store outbox : List ℕ} (v : Invariant e
                 flags = λ q b i j. at-row e (λ (s : PoolRow). (taken′ ! slot q b ≡ 0) ⊎ ((taken′ ! slot q b ≡ 1) × From 1 (s .count) b)) q
                     (λ z. subst (λ (n : ℕ). (taken′ ! slot n b ≡ 0) ⊎ ((taken′ ! slot n b ≡ 1) × From 1 (r .count) b)) (sym z) (flags b j))
                     (λ d. rw (others q b d j) (x .flags q b i j));
-                room = fits;
+                room = omega (arith, sum-but-one f g p 1 pools low (omega arith) others-same, here);
                 waits = λ u i j q. at-row e (λ (s : PoolRow). Gets s (λ b. taken′ ! slot (rows u .object) b)) (rows u .object)
                     (λ z. subst (λ (n : ℕ). Gets r (λ b. taken′ ! slot n b)) (sym z) (waits u i j q z))
                     (λ d. still u d (x .waits u i j q));
               };
         }
       where
-        fits : sum (map (λ q. new .count ! q * new .size ! q) (upTo pools)) ≤ poolBytes
-        fits =
-            let f : ℕ → ℕ = λ q. old .count ! q * old .size ! q in
-            let g : ℕ → ℕ = λ q. new .count ! q * new .size ! q in
-            let s = sum-but-one f g p 1 pools low (omega arith) (λ q d. rw (getD-set-other (old .count) p q (r .count) 0 d, getD-set-other (old .size) p q (r .size) 0 d)) in
-            let h : g p ≡ r .count * r .size = rw (set-here (v .ofPools .lists .count) high (r .count), set-here (v .ofPools .lists .size) high (r .size)) in
-            omega arith
-
-        few : (q : ℕ) → PoolShape (poolRows old q) → old .count ! q ≤ blocks
-        few q (inl g) = omega (arith, g .2)
-        few q (inr g) = g .2 .1
-
         still : (u : ℕ) → rows u .object ≢ p → Gets (poolRows old (rows u .object)) (λ b. old .taken ! slot (rows u .object) b)
             → Gets (poolRows old (rows u .object)) (λ b. taken′ ! slot (rows u .object) b)
         still u d g =
             let o = rows u .object in
             let n = numbers (v .ofPools .lists .exists) (λ (z : old .exists ! o ≡ 0). let y = g .there in omega arith) in
-            let c = few o (v .ofPools .shape o (n .0) (n .1)) in
+            let few : old .count ! o ≤ blocks = ⊎-elim (λ s. omega (arith, s .2)) (λ s. s .2 .1) (v .ofPools .shape o (n .0) (n .1)) in
             record { there = g .there; none-free = λ b i j. rw (others o b d (omega arith)) (g .none-free b i j) }

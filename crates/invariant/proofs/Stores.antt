@@ -1,11 +1,12 @@
 -- A buffer's messages change: one is stored behind the others, or the oldest is taken.
-use Rattle.model.proofs.Terms.{ℕ, _+_, _*_, _≤_, arith, _≡_, _∙_, sym, subst, _≢_, inl, inr, List, length, set-getD, tasks, buffers, messageBytes, regionBytes, _!_, receiving, Kernel, Buffers, withBuffers, withUsed, facts, standsIn, World, cost, region, withRegion, storeMessage, Each, From, Layout, Priorities}
+use mathlib.Core.Logic.{⊎-elim}
+use Rattle.model.proofs.Terms.{ℕ, _+_, _*_, _≤_, arith, _≡_, _∙_, sym, subst, _≢_, inr, List, length, set-getD, tasks, buffers, messageBytes, regionBytes, _!_, receiving, Kernel, withBuffers, withUsed, facts, standsIn, World, cost, region, withRegion, storeMessage, Each, From, Layout, Priorities}
 use Rattle.message.proofs.Areas.{length-withRegion, region-same, region-other}
 use Rattle.message.proofs.Packing.{length-appended}
 use Rattle.message.proofs.Parts.{region-size}
 use Rattle.message.proofs.Kept.{layout-append}
-use Rattle.invariant.specs.Rows.{BufferRow, bufferRows, withBufferRow, openWorld}
-use Rattle.invariant.specs.Invariant.{BufferShape, Sends, Invariant, Steady}
+use Rattle.invariant.specs.Rows.{BufferRow, bufferRows, openWorld}
+use Rattle.invariant.specs.Invariant.{Sends, Invariant, Steady}
 use Rattle.invariant.proofs.Parts.{buffer-exchanged}
 
 -- what is known of a buffer that is there
@@ -20,11 +21,7 @@ module _ {exiting : ℕ} {k : Kernel} {store outbox : List ℕ} (v : Invariant e
   buffer = bufferRows (k .buffers) b
 
   pub buffer-there : buffer .exists ≢ 0 → Usable buffer
-  buffer-there n = go (v .ofBuffers .shape b low high)
-    where
-      go : BufferShape buffer → Usable buffer
-      go (inl g) = absurd (n (g .0))
-      go (inr g) = record { there = g .0; size = g .2; longest = g .3; room = g .4 }
+  buffer-there n = ⊎-elim (λ g. absurd (n (g .0))) (λ g. record { there = g .0; size = g .2; longest = g .3; room = g .4 }) (v .ofBuffers .shape b low high)
 
   pub region-long : length (region b store) ≡ regionBytes
   region-long = region-size b store low (omega (arith, v .ofBuffers .size))
@@ -34,24 +31,13 @@ module _ {exiting : ℕ} {k : Kernel} {store outbox : List ℕ} (v : Invariant e
       → Each tasks (λ u. k .tasks .place ! u ≡ receiving → k .tasks .object ! u ≢ b) → Invariant exiting (withUsed k b used) (withRegion b store r) outbox
   unfolding withUsed withBuffers
   region-exchanged used r there fits full layout nobody =
-      subst (λ (x : Buffers). Invariant exiting (withBuffers k x) (withRegion b store r) outbox) is
-      (buffer-exchanged v b low high new (withRegion b store r) (shape (v .ofBuffers .shape b low high)) (length-withRegion b store r)
+      let new : BufferRow = record { exists = buffer .exists; attribute = buffer .attribute; bufsz = buffer .bufsz; maxmsz = buffer .maxmsz; used = used } in
+      let long : b * regionBytes ≤ length store = omega (arith, v .ofBuffers .size) in
+      rw (set-getD, set-getD, set-getD, set-getD) at
+      (buffer-exchanged v b low high new (withRegion b store r) (⊎-elim (λ g. absurd (there (g .0))) (λ g. inr (g .0, g .1, g .2, g .3, fits)) (v .ofBuffers .shape b low high)) (length-withRegion b store r)
       (subst (Layout (buffer .maxmsz) used) (sym (region-same b store r low long full)) layout) (region-other b store r low long full)
       (λ u i j p o. let s = subst (λ (c : ℕ). Sends (bufferRows (k .buffers) c) (k .tasks .argument ! u)) o (v .ofBuffers .sends u i j p) in record { there = s .there; sized = s .sized })
       (λ u i j p o. absurd (nobody u i j p o)))
-    where
-      new : BufferRow
-      new = record { exists = buffer .exists; attribute = buffer .attribute; bufsz = buffer .bufsz; maxmsz = buffer .maxmsz; used = used }
-
-      long : b * regionBytes ≤ length store
-      long = omega (arith, v .ofBuffers .size)
-
-      shape : BufferShape buffer → BufferShape new
-      shape (inl g) = absurd (there (g .0))
-      shape (inr g) = inr (g .0, g .1, g .2, g .3, fits)
-
-      is : withBufferRow (k .buffers) b new ≡ withUsed k b used .buffers
-      is = let x = k .buffers in rw (set-getD (x .exists) b 0, set-getD (x .attribute) b 0, set-getD (x .bufsz) b 0, set-getD (x .maxmsz) b 0)
 
 -- a message is stored: it fits, and nobody waits to receive
 pub stored : {exiting : ℕ} {w : World} → Steady exiting w → (b : ℕ) → 1 ≤ b → b ≤ buffers → (m : List ℕ) → w .kernel .buffers .exists ! b ≢ 0

@@ -1,7 +1,7 @@
 -- A wait begins, and a wait ends: what holds between acts holds after them.
-use Rattle.model.proofs.Terms.{ℕ, _*_, _-_, _≤_, _<_, ℕ-discrete, arith, _≡_, _∙_, refl, sym, ap, subst, _≢_, _⊎_, inl, inr, Bool, true, false, List, [], drop, length, set, set-getD, set-set, getD-set-same, eqb, ne-eqb, eqb-false, tasks, messageBytes, _!_, zeros, Queue, queue, readyQueue, dormant, ready, locking, sending, getting, Kernel, numbered, Buffers, Pools, withBuffers, withPools, withArgument, withLeft, arrived, facts, standsIn, holderAwaited, ownPriority, effective, effectives, Delivery, World, withOutbox, recompute, part, arrive, recomputeIf, millis, wait, leaveKernel, leaveOutbox, leave, endWait, From, Priorities}
+use Rattle.model.proofs.Terms.{ℕ, _*_, _-_, _≤_, _<_, ℕ-discrete, arith, _≡_, _∙_, refl, sym, ap, subst, _≢_, _⊎_, inl, inr, List, [], drop, length, set, set-getD, set-set, eq-eqb, ne-eqb, tasks, messageBytes, _!_, zeros, Queue, queue, readyQueue, dormant, ready, locking, sending, getting, Kernel, numbered, Buffers, Pools, withArgument, withLeft, arrived, facts, standsIn, holderAwaited, ownPriority, effective, effectives, Delivery, World, withKernel, withOutbox, recompute, settled, part, arrive, millis, wait, leaveKernel, leaveOutbox, leave, endWait, From, Priorities}
 use lib.IntN.{ℤ}
-use Rattle.model.proofs.NumberLaws.{numbered-at, numbered-other}
+use Rattle.model.proofs.NumberLaws.{numbered-at, numbered-other, numbered-same}
 use Rattle.model.proofs.ByCase.{leaves-sending, leaves-other, recompute-if, recompute-not}
 use Rattle.message.proofs.Areas.{length-withOutboxMessage, outbox-same, outbox-other}
 use Rattle.message.proofs.Packing.{zeros-padded}
@@ -19,44 +19,35 @@ pub priorities-recomputed : (k : Kernel) → Priorities (recompute k)
 unfolding Priorities recompute facts standsIn openTasks
 priorities-recomputed k = refl
 
--- buffers and pools do not enter them
-module _ (k : Kernel) (h : Priorities k) where
-  pub priorities-buffers : (x : Buffers) → Priorities (withBuffers k x)
-  unfolding Priorities withBuffers effectives effective ownPriority holderAwaited facts
-  priorities-buffers x = h
+-- a world whose kernel is exchanged, and its priorities recomputed
+pub steady-settled : {exiting : ℕ} (w : World) {k : Kernel} → Invariant exiting k (w .store) (w .outbox) → Steady exiting (settled (withKernel w k))
+unfolding settled withKernel
+steady-settled w {k} v = record { invariant = recomputed v; priorities = priorities-recomputed k }
 
-  pub priorities-pools : (x : Pools) → Priorities (withPools k x)
-  unfolding Priorities withPools effectives effective ownPriority holderAwaited facts
-  priorities-pools x = h
+-- buffers and pools do not enter them
+pub priorities-beside : (k : Kernel) (x : Buffers) (y : Pools) → Priorities k
+    → Priorities (record { tasks = k .tasks; arrivals = k .arrivals; mutexes = k .mutexes; buffers = x; pools = y })
+unfolding Priorities effectives effective ownPriority holderAwaited facts
+priorities-beside k x y h = h
 
 -- a task that goes from one place to another, neither of them a mutex's queue: nobody's priority changes
 module _ (k : Kernel) (t : ℕ) (low : 1 ≤ t) (inside : t < length (k .tasks .place)) (q : Queue) (was : k .tasks .place ! t ≢ locking) (is : q .place ≢ locking) where
   same-awaited : (argument left : ℕ) (ts : List ℕ) (x : ℕ) → holderAwaited (facts k) x ≡ holderAwaited (facts (moved k t q argument left ts)) x
   unfolding holderAwaited facts moved withRow openTasks
-  same-awaited argument left ts x = go (ℕ-discrete x t)
-    where
-      go : Dec (x ≡ t) → holderAwaited (facts k) x ≡ holderAwaited (facts (moved k t q argument left ts)) x
-      go (no d) = rw (numbered-other (k .tasks .place) t (q .place) x d, numbered-other (k .tasks .object) t (q .object) x d)
-      go (yes e) =
-          rw (
-            e,
-            numbered-at (k .tasks .place) t low,
-            numbered-at (set (k .tasks .place) t (q .place)) t low,
-            getD-set-same (k .tasks .place) t (q .place) 0 inside,
-            ne-eqb (k .tasks .place ! t) locking was,
-            ne-eqb (q .place) locking is,
-          )
-
-  same-own : (argument left : ℕ) (ts : List ℕ) (u : ℕ) → ownPriority (facts k) u ≡ ownPriority (facts (moved k t q argument left ts)) u
-  unfolding facts moved withRow openTasks
-  same-own argument left ts u = own-agree _ _ u (ap (λ (bases : List ℕ). numbered bases ! u) (sym (set-getD (k .tasks .base) t 0))) refl refl refl
+  same-awaited argument left ts x =
+      let places = k .tasks .place in
+      elim (ℕ-discrete x t) [
+        | yes e ↦ rw (e, numbered-at places t low, numbered-same places t (q .place) low inside, ne-eqb (places ! t) locking was, ne-eqb (q .place) locking is)
+        | no d ↦ rw (numbered-other places t (q .place) x d, numbered-other (k .tasks .object) t (q .object) x d)
+      ]
 
   priorities-moved : (argument left : ℕ) (ts : List ℕ) → Priorities k → Priorities (moved k t q argument left ts)
+  unfolding Priorities facts moved withRow openTasks
   priorities-moved argument left ts h =
-      unfold Priorities in (current ∙ h ∙ effectives-agree (facts k) (facts (moved k t q argument left ts)) (same-own argument left ts) (same-awaited argument left ts))
-    where
-      current : moved k t q argument left ts .tasks .current ≡ k .tasks .current
-      current = unfold moved withRow openTasks in set-getD (k .tasks .current) t 0
+      let bases = set-getD (k .tasks .base) t 0 in
+      set-getD (k .tasks .current) t 0 ∙ h
+      ∙ effectives-agree (facts k) (facts (moved k t q argument left ts)) (λ u. own-agree _ _ u (ap (λ (xs : List ℕ). numbered xs ! u) (sym bases)) refl refl refl)
+      (same-awaited argument left ts)
 
 -- ---- a wait ends
 
@@ -67,11 +58,12 @@ ready-is k t = rw (set-set (k .tasks .object) t 0 0, set-getD (k .tasks .initial
 -- priorities are recomputed if it was for a mutex; whatever else holds
 pub priorities-ended : (w : World) (t : ℕ) (c : ℤ) (d : Delivery) → 1 ≤ t → t < length (w .kernel .tasks .place) → Priorities (w .kernel) → Priorities (endWait w t c d .kernel)
 unfolding endWait leave openWorld
-priorities-ended w t c d low inside h = rw (ready-is (w .kernel) t) (go (eqb (w .kernel .tasks .place ! t) locking) refl)
-  where
-    go : (b : Bool) → eqb (w .kernel .tasks .place ! t) locking ≡ b → Priorities (recomputeIf b (moved (w .kernel) t readyQueue 0 0 (arrived t (w .kernel .arrivals))))
-    go true e = rw recompute-if (priorities-recomputed _)
-    go false e = rw recompute-not (priorities-moved (w .kernel) t low inside readyQueue (eqb-false _ _ e) (λ (z : ready ≡ locking). omega arith) 0 0 _ h)
+priorities-ended w t c d low inside h =
+    rw (ready-is (w .kernel) t)
+    (elim (ℕ-discrete (w .kernel .tasks .place ! t) locking) [
+      | yes e ↦ rw (e, recompute-if) (priorities-recomputed _)
+      | no n ↦ rw (ne-eqb _ locking n, recompute-not) (priorities-moved (w .kernel) t low inside readyQueue n (λ (z : ready ≡ locking). omega arith) 0 0 _ h)
+    ])
 
 module _ {exiting : ℕ} {w : World} (s : Steady exiting w) (t : ℕ) (low : 1 ≤ t) (high : t ≤ tasks) where
   abbrev k : Kernel
@@ -79,9 +71,6 @@ module _ {exiting : ℕ} {w : World} (s : Steady exiting w) (t : ℕ) (low : 1 �
 
   abbrev inv : Invariant exiting k (w .store) (w .outbox)
   inv = s .invariant
-
-  abbrev listing : Listing (k .tasks .place) (k .arrivals)
-  listing = inv .ofTasks .listing
 
   -- who sends nothing has no bytes in the outbox
   pub box-empty : k .tasks .place ! t ≢ sending → part messageBytes t (w .outbox) ≡ zeros messageBytes
@@ -91,18 +80,14 @@ module _ {exiting : ℕ} {w : World} (s : Steady exiting w) (t : ℕ) (low : 1 �
 
   -- a sender's bytes leave it
   pub box-left : Boxed t (w .outbox) (leaveOutbox k (w .outbox) t) × (part messageBytes t (leaveOutbox k (w .outbox) t) ≡ zeros messageBytes)
-  box-left = go (ℕ-discrete (k .tasks .place ! t) sending)
-    where
-      long : t * messageBytes ≤ length (w .outbox)
-      long = omega (arith, inv .ofTasks .size)
-
-      go : Dec (k .tasks .place ! t ≡ sending) → Boxed t (w .outbox) (leaveOutbox k (w .outbox) t) × (part messageBytes t (leaveOutbox k (w .outbox) t) ≡ zeros messageBytes)
-      go (yes e) =
-          rw (leaves-sending k (w .outbox) t e) (
-            record { size = length-withOutboxMessage t (w .outbox) []; other = outbox-other t (w .outbox) [] low long },
-            outbox-same t (w .outbox) [] low long ∙ sym (zeros-padded messageBytes),
-          )
-      go (no d) = rw (leaves-other k (w .outbox) t d) (same-box inv t low high, box-empty d)
+  box-left =
+      let long : t * messageBytes ≤ length (w .outbox) = omega (arith, inv .ofTasks .size) in
+      let other = outbox-other t (w .outbox) [] low long in
+      let same = outbox-same t (w .outbox) [] low long ∙ sym (zeros-padded messageBytes) in
+      elim (ℕ-discrete (k .tasks .place ! t) sending) [
+        | yes e ↦ rw (leaves-sending k (w .outbox) t e) (record { size = length-withOutboxMessage t (w .outbox) []; other = other }, same)
+        | no d ↦ rw (leaves-other k (w .outbox) t d) (same-box inv t low high, box-empty d)
+      ]
 
   -- to a place without a wait, in whatever arrivals
   pub moves-idle : (place : ℕ) {ts : List ℕ} → dormant ≤ k .tasks .place ! t → dormant ≤ place → place < locking → (ready ≤ place) ⊎ (t ≡ exiting)
@@ -112,19 +97,20 @@ module _ {exiting : ℕ} {w : World} (s : Steady exiting w) (t : ℕ) (low : 1 �
       moves inv t low high (queue place 0) 0 0 was (least, omega arith) stays (idle k t (queue place 0) 0 most) (inl (most, refl, refl)) (λ d. refl) list (box-left .0) (box-left .1)
 
   pub ready-again : dormant ≤ k .tasks .place ! t → Invariant exiting (moved k t readyQueue 0 0 (arrived t (k .arrivals))) (w .store) (leaveOutbox k (w .outbox) t)
-  ready-again h = moves-idle ready h (omega arith) (omega arith) (inl (omega arith)) (arrived-listing listing t ready low high (omega arith))
+  ready-again h = moves-idle ready h (omega arith) (omega arith) (inl (omega arith)) (arrived-listing (inv .ofTasks .listing) t ready low high (omega arith))
 
   pub ended : (c : ℤ) (d : Delivery) → dormant ≤ k .tasks .place ! t → Steady exiting (endWait w t c d)
   unfolding endWait leave openWorld
   ended c d h =
       record {
-        invariant = rw (ready-is k t) (keeps-if (eqb (k .tasks .place ! t) locking) (ready-again h));
+        invariant =
+            rw (ready-is k t)
+            (elim (ℕ-discrete (k .tasks .place ! t) locking) [
+              | yes e ↦ rw (eq-eqb _ locking e, recompute-if) (recomputed (ready-again h))
+              | no n ↦ rw (ne-eqb _ locking n, recompute-not) (ready-again h)
+            ]);
         priorities = priorities-ended w t c d low (inside (inv .ofTasks .lists .place) high) (s .priorities);
       }
-    where
-      keeps-if : (b : Bool) {j : Kernel} {store outbox : List ℕ} → Invariant exiting j store outbox → Invariant exiting (recomputeIf b j) store outbox
-      keeps-if true i = rw recompute-if (recomputed i)
-      keeps-if false i = rw recompute-not i
 
 -- ---- a wait begins
 
@@ -132,7 +118,7 @@ module _ {w : World} (s : Steady 0 w) (t : ℕ) (low : 1 ≤ t) (high : t ≤ ta
   abbrev waited : Kernel
   waited = moved (w .kernel) t q argument (millis timeout) (arrived t (w .kernel .arrivals))
 
-  wait-is : withLeft (withArgument (arrive (w .kernel) t q) t argument) t (millis timeout) ≡ waited
+  pub wait-is : withLeft (withArgument (arrive (w .kernel) t q) t argument) t (millis timeout) ≡ waited
   unfolding arrive moved withRow openTasks
   wait-is = let x = w .kernel .tasks in rw (set-getD (x .initial) t 0, set-getD (x .base) t 0, set-getD (x .current) t 0)
 
@@ -140,23 +126,17 @@ module _ {w : World} (s : Steady 0 w) (t : ℕ) (low : 1 ≤ t) (high : t ≤ ta
       → (q .place ≢ sending → argument ≡ 0) → Boxed t (w .outbox) outbox′ → drop argument (part messageBytes t outbox′) ≡ zeros (messageBytes - argument)
       → Steady 0 (wait (withOutbox w outbox′) t q argument timeout)
   unfolding wait openWorld
-  waits-kept {outbox′} was place meets time silent boxed bytes = rw wait-is (go (eqb (q .place) locking) refl)
-    where
-      kept : Invariant 0 waited (w .store) outbox′
-      kept =
-          moves (s .invariant) t low high q argument (millis timeout) (omega arith) (omega (arith, place)) (inl (omega (arith, place))) meets (inr (place .0, time)) silent
-          (arrived-listing (s .invariant .ofTasks .listing) t (q .place) low high (omega (arith, place))) boxed bytes
-
-      go : (b : Bool) → eqb (q .place) locking ≡ b → Steady 0 (record { kernel = recomputeIf b waited; store = w .store; outbox = outbox′; ended = w .ended })
-      go true e = rw recompute-if (record { invariant = recomputed kept; priorities = priorities-recomputed waited })
-      go false e =
-          rw recompute-not
-          (record {
-            invariant = kept;
-            priorities =
-                priorities-moved (w .kernel) t low (inside (s .invariant .ofTasks .lists .place) high) q (λ (z : w .kernel .tasks .place ! t ≡ locking). omega arith)
-                (eqb-false _ _ e) argument (millis timeout) _ (s .priorities);
-          })
+  waits-kept {outbox′} was place meets time silent boxed bytes =
+      let v = s .invariant in
+      let kept : Invariant 0 waited (w .store) outbox′ =
+      moves v t low high q argument (millis timeout) (omega arith) (omega (arith, place)) (inl (omega (arith, place))) meets (inr (place .0, time)) silent
+      (arrived-listing (v .ofTasks .listing) t (q .place) low high (omega (arith, place))) boxed bytes in
+      let same = priorities-moved (w .kernel) t low (inside (v .ofTasks .lists .place) high) q (λ (z : w .kernel .tasks .place ! t ≡ locking). omega arith) in
+      rw wait-is
+      (elim (ℕ-discrete (q .place) locking) [
+        | yes e ↦ rw (eq-eqb _ locking e, recompute-if) (record { invariant = recomputed kept; priorities = priorities-recomputed waited })
+        | no n ↦ rw (ne-eqb _ locking n, recompute-not) (record { invariant = kept; priorities = same n argument (millis timeout) _ (s .priorities) })
+      ])
 
   -- a wait that sends nothing
   pub waits-quiet : argument ≡ 0 → w .kernel .tasks .place ! t ≡ ready → From locking getting (q .place) → Meets (w .kernel) t q argument → Lasting (millis timeout)

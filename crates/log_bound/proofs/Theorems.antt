@@ -1,15 +1,13 @@
 -- The statements of `Statements`, proved: from what is counted in one call to the log of a record and of a script. Assumes nothing.
-use Rattle.model.proofs.Terms.{ℕ, ℕ-discrete, zero, suc, _+_, _*_, _-_, _≤_, _<_, decLe, arith, _≡_, _∙_, refl, sym, ap, Bool, true, false, Option, none, some, List, [], _∷_, map, length, drop, length-append, length-map, length-drop, ℤ, eqb, messageBytes, logBytes, scriptBytes, _!_, joined, E-SYS, Lent, Delivery, Nothing, Message, Block, Ended, running, firstRefusal, refusals, effect, valid, wordCount, kernel, Outcome, refused, step, freshLent, readRecord, recordMessage, field, fieldsOf, answerBytes, deliveryBytes, endedBytes, runsBytes, outcomeLog, runFrom, run, scriptLog, lent, isValid, untouched, notValid, returned, lentStep, scriptOver, went, lentRecord}
+use Rattle.model.proofs.Terms.{ℕ, zero, suc, _+_, _*_, _-_, _≤_, decLe, arith, _≡_, _∙_, refl, sym, ap, Bool, true, false, Option, none, some, List, [], _∷_, map, length, drop, length-append, length-map, length-drop, ℤ, eqb, eqb-true, ltb, leb, messageBytes, logBytes, scriptBytes, _!_, joined, E-SYS, Lent, Delivery, Nothing, Message, Block, Ended, running, firstRefusal, refusals, effect, valid, wordCount, kernel, Outcome, refused, step, freshLent, readRecord, recordMessage, field, fieldsOf, answerBytes, deliveryBytes, endedBytes, runsBytes, outcomeLog, runFrom, run, scriptLog, lent, Returned, Went, stopBytes, isValid, untouched, notValid, returned, lentStep, scriptOver, went, lentRecord}
 use mathlib.Core.Bool.{and-eq-true-iff}
 use Rattle.model.specs.Compute.{compute}
 use Rattle.model.specs.declared.call.Call.{Call}
-use Rattle.model.specs.declared.call.Answer.{Answer}
 use Rattle.model.specs.declared.call.Answer.the-variants.{Code, Waits, Exits}
-use Rattle.model.specs.declared.call.Cursor.{Cursor}
 use Rattle.model.specs.declared.call.Read.{Read}
 use Rattle.model.specs.declared.call.Read.the-variants.{Record, Stop}
-use Rattle.model.proofs.ListLaws.{length-countFrom}
-use Rattle.model.proofs.ByCase.{step-refused, step-done, step-valid, step-not-valid, lent-untouched, lent-not-valid, lent-valid, record-no-area, record-too-long, record-end, record-stops, record-runs, run-over, run-stops, run-goes-on, script-too-long, script-runs}
+use Rattle.model.proofs.ListLaws.{by-test, length-countFrom}
+use Rattle.model.proofs.ByCase.{step-refused, step-done, step-valid, step-not-valid, run-over, run-stops, run-goes-on, script-too-long, script-runs}
 use Rattle.script.proofs.Rows.{fields-fit, fields-made}
 use Rattle.script.proofs.Reading.{was-read, read-at}
 use Rattle.message.proofs.Parts.{length-padded}
@@ -43,12 +41,6 @@ pub one-delivery : OneDelivery
 one-delivery x c bytes = step-bounded x c bytes .once
 
 -- the items of its log
-answer-length : (a : Answer) → length (answerBytes a) ≤ longestAnswer
-unfolding answerBytes
-answer-length (Code c) = omega arith
-answer-length Waits = omega arith
-answer-length Exits = omega arith
-
 delivery-length : (t : ℕ) (d : Delivery) → length (deliveryBytes t d) ≤ longestDelivery * delivers d
 unfolding deliveryBytes
 delivery-length t Nothing = omega arith
@@ -61,8 +53,10 @@ ended-length [] = omega arith
 ended-length (e ∷ es) = rw (length-append, length-append) (omega (arith, delivery-length (e .task) (e .delivery), ended-length es))
 
 log-length : (caller : ℕ) (o : Outcome) → length (outcomeLog caller o) ≤ bytesForOne + endedLength * length (o .ended) + longestDelivery * deliveries o
-unfolding outcomeLog runsBytes
-log-length caller o = simp length-append (omega (arith, answer-length (o .answer), delivery-length caller (o .delivery), ended-length (o .ended)))
+unfolding outcomeLog answerBytes runsBytes
+log-length caller o =
+    let answer = elim (o .answer) as (λ a. length (answerBytes a) ≤ longestAnswer) [ Code c ↦ omega arith | Waits ↦ omega arith | Exits ↦ omega arith ] in
+    simp length-append (omega (arith, answer, delivery-length caller (o .delivery), ended-length (o .ended)))
 
 pub record-log-is-short : RecordLogIsShort
 record-log-is-short caller x c bytes = omega (arith, log-length caller (step x c bytes), few-waits-end x c bytes, one-delivery x c bytes)
@@ -73,46 +67,28 @@ record-log-fits caller x c bytes = omega (arith, record-log-is-short caller x c 
 -- ---- lent words
 
 pub lent-log-fits : LentLogFits
-lent-log-fits a c bytes = go (ℕ-discrete (length (a .log)) logBytes) (isValid (a .words) (a .store) (a .outbox)) refl
-  where
-    x : Lent
-    x = lent (a .words) (a .store) (a .outbox)
-
-    passes : isValid (a .words) (a .store) (a .outbox) ≡ true → valid x ≡ true
-    passes e = and-eq-true-iff (eqb (length (a .words)) wordCount) (valid x) .0 (unfold isValid in e) .1
-
-    go : Dec (length (a .log) ≡ logBytes) → (b : Bool) → isValid (a .words) (a .store) (a .outbox) ≡ b → lentStep a c bytes .written ≤ length (a .log)
-    go (no d) b e = rw (lent-untouched a c bytes d) (unfold untouched in omega arith)
-    go (yes l) false e = rw (lent-not-valid a c bytes l e) (unfold notValid refused in omega (arith, log-length 0 (refused x E-SYS 0)))
-    go (yes l) true e =
-        rw (lent-valid a c bytes l e, l)
-        (unfold returned in rw (step-valid x c bytes (passes e)) at (record-log-fits (running (kernel (a .words))) x c bytes))
+unfolding lentStep isValid returned notValid untouched refused
+lent-log-fits a c bytes =
+    let x = lent (a .words) (a .store) (a .outbox) in
+    let Fits : Returned → Type 0 = λ r. r .written ≤ length (a .log) in
+    by-test Fits (eqb (length (a .log)) logBytes) (λ l. by-test Fits (isValid (a .words) (a .store) (a .outbox))
+    (λ e. let same = step-valid x c bytes (and-eq-true-iff (eqb (length (a .words)) wordCount) (valid x) .0 e .1) in
+    omega (arith, eqb-true (length (a .log)) logBytes l, rw same at (record-log-fits (running (kernel (a .words))) x c bytes)))
+    (λ e. omega (arith, eqb-true (length (a .log)) logBytes l, log-length 0 (refused x E-SYS 0)))) (λ l. omega arith)
 
 pub lent-record-log-fits : LentRecordLogFits
+unfolding lentRecord scriptOver went
 lent-record-log-fits a script at =
-    go (ℕ-discrete (length (a .log)) logBytes) (decLe (length script) scriptBytes) (decLe (length script) at) (readRecord script at) refl
-  where
-    go : Dec (length (a .log) ≡ logBytes) → Dec (length script ≤ scriptBytes) → Dec (length script ≤ at) → (r : Read) → readRecord script at ≡ r
-        → lentRecord a script at .written ≤ length (a .log)
-    go (no d) s h r e = rw (record-no-area a script at d) (omega arith)
-    go (yes l) (no s) h r e = rw (record-too-long a script at l (omega arith)) (unfold scriptOver in omega arith)
-    go (yes l) (yes s) (yes h) r e = rw (record-end a script at l s h) (unfold scriptOver in omega arith)
-    go (yes l) (yes s) (no h) (Stop offset) e = rw (record-stops a script at l s (omega arith) e) (unfold scriptOver in omega arith)
-    go (yes l) (yes s) (no h) (Record c next) e =
-        rw (record-runs a script at l s (omega arith) e) (unfold went in lent-log-fits a c (recordMessage script at))
+    let Fits : Went → Type 0 = λ r. r .written ≤ length (a .log) in
+    by-test Fits (eqb (length (a .log)) logBytes) (λ l. let long = eqb-true (length (a .log)) logBytes l in
+    by-test Fits (ltb scriptBytes (length script)) (λ e. omega arith) (λ e. by-test Fits (leb (length script) at) (λ e. omega arith)
+    (λ e. elim (readRecord script at) as
+    (λ r. Fits (elim r [ Stop o ↦ scriptOver a (stopBytes o) | Record c n ↦ went (lentStep a c (recordMessage script at)) (n .at) ]))
+    [ Stop o ↦ omega arith | Record c n ↦ lent-log-fits a c (recordMessage script at) ]))) (λ l. omega arith)
 
 -- ---- a script
 
--- a record takes a byte, and four for each field
-record-bytes : (script : List ℕ) (at : ℕ) (c : Call) (next : Cursor) → at < length script → readRecord script at ≡ Record c next
-    → (at + 1 + 4 * length (fieldsOf c) ≤ next .at) × (next .at ≤ length script)
-record-bytes script at c next inside e =
-    let r = was-read at (script ! at) (drop (at + 1) script) c next (sym (read-at script at inside) ∙ e) in
-    let made = ap length (fields-made (script ! at) (r .row) (r .is) (field (drop (at + 1) script))) in
-    let fields = rw (r .made) at (simp (length-map, length-countFrom) at made) in
-    omega (arith, fields-fit (script ! at) (r .row) (r .is), length-drop (at + 1) script, r .fits, r .end)
-
--- a run from a place of a script on, of n records at most
+-- a run from a place of a script on, of n records at most; a record takes a byte, and four for each field
 abbrev Short : List ℕ → ℕ → Lent → ℕ → Type 0
 Short script n x at = length (runFrom n x script at .log) ≤ bytesForOne * (length script - at) + endedLength * waiting (x .kernel)
 
@@ -126,20 +102,20 @@ runs-short script (suc n) x at = go (decLe (length script) at) (readRecord scrip
     go (no h) (Record c next) e rest =
         let o = step x c (recordMessage script at) in
         let paid = step-bounded x c (recordMessage script at) .covered in
-        let size = record-bytes script at c next (omega arith) e in
-        rw (run-goes-on n x script at (omega arith) e, length-append)
-        (omega (arith, log-length (running (x .kernel)) o, paid, size, rest (o .lent) (next .at)))
+        let r = was-read at (script ! at) (drop (at + 1) script) c next (sym (read-at script at (omega arith)) ∙ e) in
+        let made = ap length (fields-made (script ! at) (r .row) (r .is) (field (drop (at + 1) script))) in
+        let fields = rw (r .made) at (simp (length-map, length-countFrom) at made) in
+        let size : (at + 1 + 4 * length (fieldsOf c) ≤ next .at) × (next .at ≤ length script) =
+        omega (arith, fields-fit (script ! at) (r .row) (r .is), length-drop (at + 1) script, r .fits, r .end) in
+        rw (run-goes-on n x script at (omega arith) e, length-append) (omega (arith, log-length (running (x .kernel)) o, paid, size, rest (o .lent) (next .at)))
 
 pub run-log-is-short : RunLogIsShort
 unfolding run
 run-log-is-short x script = omega (arith, runs-short script (length script) x 0)
 
 pub script-log-is-short-from : ScriptLogIsShortFrom
-script-log-is-short-from x script =
-    elim (decLe (length script) scriptBytes) [
-      | yes h ↦ rw (script-runs x script h) (run-log-is-short x script)
-      | no h ↦ rw (script-too-long x script (omega arith)) (omega arith)
-    ]
+script-log-is-short-from x script = elim (decLe (length script) scriptBytes)
+    [ yes h ↦ rw (script-runs x script h) (run-log-is-short x script) | no h ↦ rw (script-too-long x script (omega arith)) (omega arith) ]
 
 -- nobody waits in the fresh state
 pub script-log-is-short : ScriptLogIsShort

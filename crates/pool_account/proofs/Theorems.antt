@@ -6,14 +6,13 @@ use Rattle.preservation.proofs.Records.{scripts-fit, runs-are-lists}
 use Rattle.preservation.proofs.Theorems.{fresh-is-valid, calls-keep-valid}
 use Rattle.pool_account.specs.Account.{blocksIn, accounted}
 use Rattle.pool_account.specs.Statements.{CallsKeepBalance, BlocksComeFromPools, ListsBalance, FreshListsBalance, RunsBalance}
-use Rattle.pool_account.proofs.Calls.{accountOf, has-account, call-balanced}
+use Rattle.pool_account.proofs.Calls.{call-balanced}
 
 pub calls-keep-balance : CallsKeepBalance
-calls-keep-balance x a c bytes v h = call-balanced x v a h c bytes .0
+calls-keep-balance x a c bytes v h = call-balanced x v a c bytes .0 h
 
--- any account that balances serves
 pub blocks-come-from-pools : BlocksComeFromPools
-blocks-come-from-pools x c bytes v = call-balanced x v (accountOf (x .kernel .pools)) (has-account x v) c bytes .1
+blocks-come-from-pools x c bytes v = call-balanced x v (λ p. none) c bytes .1
 
 pub lists-balance : ListsBalance
 lists-balance x a [] fit v h = h

@@ -1,6 +1,7 @@
 -- The calls on mutexes keep what holds between acts.
 use mathlib.Core.Bool.{and-eq-true-iff}
-use Rattle.model.proofs.Terms.{ℕ, ℕ-discrete, arith, _≡_, _∙_, refl, sym, ap, _≢_, _⊎_, inl, inr, Bool, true, false, _&&_, cond, ℤ, pos, set-getD, eqb, eq-eqb, ne-eqb, eqb-true, eqb-false, ltb-false, mutexes, priorities, _!_, upTo, E-DLT, number, queue, locking, Facts, ceilinged, mostUrgent, holderAwaited, ownPriority, Kernel, Mutexes, numbered, withMutexExists, withMutexAttribute, withCeiling, withHolder, withCurrents, facts, standsIn, World, withKernel, queueOrder, queueFront, running, recompute, settled, unused, outside, lockWaits, mutexAttributes, nobodyRuns, badAttribute, badNumber, noSuch, noneFree, noTime, creMtxRefusals, locMtxRefusals, unlMtxRefusals, deletionRefusals, refusals, creMtx, delMtx, unlMtx, perform, fieldsOf, From, Priorities}
+use mathlib.Core.Logic.{⊎-elim}
+use Rattle.model.proofs.Terms.{ℕ, ℕ-discrete, arith, _≡_, _∙_, refl, sym, ap, _≢_, inl, inr, Bool, true, false, _&&_, cond, ℤ, set-getD, eqb, eq-eqb, ne-eqb, eqb-true, eqb-false, ltb-false, mutexes, priorities, _!_, upTo, E-DLT, number, queue, locking, Facts, ceilinged, mostUrgent, holderAwaited, ownPriority, Kernel, Mutexes, numbered, withMutexExists, withMutexAttribute, withCeiling, withHolder, withCurrents, facts, standsIn, World, withKernel, queueOrder, running, recompute, settled, unused, lockWaits, mutexAttributes, nobodyRuns, badAttribute, badNumber, noSuch, noneFree, noTime, creMtxRefusals, locMtxRefusals, unlMtxRefusals, deletionRefusals, refusals, creMtx, delMtx, unlMtx, perform, fieldsOf, From, Priorities}
 use Rattle.model.specs.declared.call.Call.the-variants.{CreMtx, DelMtx, LocMtx, UnlMtx}
 use Rattle.model.proofs.NumberLaws.{numbered-at, numbered-other}
 use Rattle.model.proofs.ListLaws.{select-agree}
@@ -11,11 +12,11 @@ use Rattle.priority.specs.Least.{least-first}
 use Rattle.priority.specs.Own.{holdsCeiling}
 use Rattle.priority.proofs.EffectiveLaws.{effectives-agree}
 use Rattle.invariant.specs.Rows.{MutexRow, mutexRows, withMutexRow}
-use Rattle.invariant.specs.Invariant.{MutexShape, Under, Invariant, Steady}
+use Rattle.invariant.specs.Invariant.{MutexShape, Under, Steady}
 use Rattle.invariant.proofs.Parts.{mutex-exchanged}
 use Rattle.invariant.proofs.Moves.{meets-mutex}
-use Rattle.invariant.proofs.Waits.{priorities-recomputed, waits-quiet}
-use Rattle.invariant.proofs.Releases.{steady-settled, mutex-there, taken, released}
+use Rattle.invariant.proofs.Waits.{priorities-recomputed, steady-settled, waits-quiet}
+use Rattle.invariant.proofs.Releases.{mutex-there, taken, released}
 use Rattle.invariant.proofs.Ends.{struck-out, strike}
 use Rattle.preservation.proofs.Keeps.{Keeps}
 use Rattle.preservation.proofs.Objects.{nobody-awaits, all-started, nobody-left}
@@ -50,11 +51,9 @@ module _ (k : Kernel) (n a c : ℕ) (free : numbered (k .mutexes .holder) ! n �
 
   same-awaited : (x : ℕ) → Dec (numbered (k .tasks .object) ! x ≡ n) → holderAwaited (facts k) x ≡ holderAwaited (facts (made k n a c)) x
   unfolding holderAwaited facts withCeiling withMutexAttribute withMutexExists
-  same-awaited x (yes e) = rw (e, free, either, either)
-    where
-      either : (b : Bool) → _≡_ {A = ℕ} (cond b 0 0) 0
-      either true = refl
-      either false = refl
+  same-awaited x (yes e) =
+      let either : (b : Bool) → _≡_ {A = ℕ} (cond b 0 0) 0 = elim [ true ↦ refl | false ↦ refl ] in
+      rw (e, free, either, either)
   same-awaited x (no d) = rw (numbered-other (k .mutexes .attribute) n a (numbered (k .tasks .object) ! x) d)
 
   priorities-made : Priorities k → Priorities (made k n a c)
@@ -65,16 +64,12 @@ module _ (k : Kernel) (n a c : ℕ) (free : numbered (k .mutexes .holder) ! n �
 -- ---- the calls
 
 -- a mutex that is not there is nobody's
-not-held : {r : MutexRow} → MutexShape r → r .exists ≡ 0 → r .holder ≡ 0
-not-held (inl g) e = g .3
-not-held (inr g) e = absurd (omega (arith, g .0))
+pub not-held : {r : MutexRow} → MutexShape r → r .exists ≡ 0 → r .holder ≡ 0
+not-held shape e = ⊎-elim (λ g. g .3) (λ g. absurd (omega (arith, g .0))) shape
 
 module _ {w : World} (s : Steady 0 w) where
   abbrev k : Kernel
   k = w .kernel
-
-  abbrev inv : Invariant 0 k (w .store) (w .outbox)
-  inv = s .invariant
 
   pub creates-mutex : (attribute ceiling : ℤ) → Keeps w (CreMtx attribute ceiling)
   unfolding refusals creMtxRefusals badAttribute noneFree perform creMtx withKernel withCeiling withMutexAttribute withMutexExists
@@ -84,22 +79,19 @@ module _ {w : World} (s : Steady 0 w) where
       let a = number attribute in
       let f = unused-free (k .mutexes .exists) mutexes (eqb-false _ 0 (passed 3)) in
       let r = f .0 in
-      let free = not-held (inv .ofMutexes .shape n (r .0) (r .1)) (f .1) in
+      let free = not-held (s .invariant .ofMutexes .shape n (r .0) (r .1)) (f .1) in
+      let good = allowed mutexAttributes attribute (passed 1) in
+      let range : a ≡ ceilinged → From 1 priorities (number ceiling) = λ q. in-range priorities ceiling (rw (eq-eqb a ceilinged q) at (passed 2)) in
       record {
         invariant =
             rw (set-getD (k .mutexes .holder) n 0) at
-            (mutex-exchanged inv n (r .0) (r .1)
+            (mutex-exchanged (s .invariant) n (r .0) (r .1)
             (record { exists = 1; attribute = a; ceiling = cond (eqb a ceilinged) (number ceiling) 0; holder = k .mutexes .holder ! n })
-            (inr (refl, allowed mutexAttributes attribute (passed 1), ceilings a (passed 2) (ℕ-discrete a ceilinged))) (λ z o. absurd (z free))
-            (λ u i j p o. absurd (nobody-awaits k (k .mutexes .exists) locking n (f .1) (λ t x y q. inv .ofMutexes .waits t x y q .there) u i j p o)));
+            (inr (refl, good, elim (ℕ-discrete a ceilinged) [ yes q ↦ inl (q, rw (eq-eqb a ceilinged q) (range q)) | no d ↦ inr (d, rw (ne-eqb a ceilinged d)) ]))
+            (λ z o. absurd (z free))
+            (λ u i j p o. absurd (nobody-awaits k (k .mutexes .exists) locking n (f .1) (λ t x y q. s .invariant .ofMutexes .waits t x y q .there) u i j p o)));
         priorities = priorities-made k n a _ (numbered-at (k .mutexes .holder) n (r .0) ∙ free) (s .priorities);
       }
-    where
-      ceilings : (a : ℕ) → eqb a ceilinged && outside (pos 1) (pos priorities) ceiling ≡ false → Dec (a ≡ ceilinged)
-          → ((a ≡ ceilinged) × From 1 priorities (cond (eqb a ceilinged) (number ceiling) 0))
-          ⊎ ((a ≢ ceilinged) × (cond (eqb a ceilinged) (number ceiling) 0 ≡ 0))
-      ceilings a x (yes q) = inl (q, rw (eq-eqb a ceilinged q) (in-range priorities ceiling (rw (eq-eqb a ceilinged q) at x)))
-      ceilings a x (no d) = inr (d, rw (ne-eqb a ceilinged d))
 
   pub deletes-mutex : (mutex : ℤ) → Keeps w (DelMtx mutex)
   unfolding refusals deletionRefusals badNumber perform delMtx settled withKernel recompute withCurrents facts standsIn withMutexExists withMutexAttribute withCeiling withHolder
@@ -128,12 +120,12 @@ module _ {w : World} (s : Steady 0 w) where
         | yes z ↦
             rw (lock-free w m timeout (rw z))
             (steady-settled w
-            (taken inv m (r .0) (r .1) t there (λ d o. record { started = omega (arith, f .place); under = under })
-            (λ u i j p o. absurd (inv .ofMutexes .waits u i j p .taken (ap (λ (y : ℕ). k .mutexes .holder ! y) o ∙ z)))))
+            (taken (s .invariant) m (r .0) (r .1) t there (λ d o. record { started = omega (arith, f .place); under = under })
+            (λ u i j p o. absurd (s .invariant .ofMutexes .waits u i j p .taken (ap (λ (y : ℕ). k .mutexes .holder ! y) o ∙ z)))))
         | no d ↦
             rw (lock-waits w m timeout (rw (ne-eqb _ 0 d)))
             (waits-quiet s t (f .low) (f .high) (queue locking m) 0 timeout refl (f .place) (omega arith, omega arith)
-            (meets-mutex k t m (record { there = mutex-there inv m (r .0) (r .1) there; taken = d; other = eqb-false _ t (passed 4); under = under }))
+            (meets-mutex k t m (record { there = mutex-there (s .invariant) m (r .0) (r .1) there; taken = d; other = eqb-false _ t (passed 4); under = under }))
             (wait-time timeout (lockWaits k m) (fit .1 .0) (passed 6) (rw (ne-eqb _ 0 d))))
       ]
 
@@ -143,4 +135,3 @@ module _ {w : World} (s : Steady 0 w) where
       let passed = none-applies (refusals k (UnlMtx mutex) bytes) e in
       let r = in-range mutexes mutex (passed 1) in
       released s (number mutex) (r .0) (r .1) (eqb-false _ 0 (passed 2))
-      (elim (ℕ-discrete (queueFront k (queue locking (number mutex))) 0) [ yes z ↦ inr z | no d ↦ inl d ])

@@ -1,5 +1,7 @@
 -- What is the same for every kind of object: nobody waits for one that is not there; and where one is deleted, waits end.
-use Rattle.model.proofs.Terms.{ℕ, _≤_, arith, _≡_, _∙_, sym, _≢_, true, false≢true, List, tasks, _!_, member, Queue, ready, locking, Kernel, World, queueOrder, Each}
+use mathlib.Core.Logic.{⊎-elim}
+use Rattle.model.proofs.Terms.{ℕ, _≤_, arith, _≡_, _∙_, sym, _≢_, true, false≢true, List, _++_, tasks, _!_, member, Queue, ready, locking, Kernel, World, queueOrder, Each}
+use Rattle.model.proofs.ListLaws.{member-append}
 use Rattle.queue.proofs.Members.{of-queue, queue-has}
 use Rattle.invariant.specs.Invariant.{Steady}
 use Rattle.invariant.proofs.Ends.{Started, Left}
@@ -19,3 +21,7 @@ module _ {w : World} (s : Steady 0 w) (q : Queue) (waiting : locking ≤ q .plac
   nobody-left {v} left among u i j p o =
       let r = left .stays u (λ (z : v .kernel .tasks .place ! u ≡ ready). omega arith) in
       false≢true (sym (r .not-among) ∙ among u (queue-has (w .kernel) (s .invariant .ofTasks .listing) q (omega arith) u i j (r .place ∙ p) (r .object ∙ o)))
+
+pub both-started : {w : World} → Steady 0 w → (q r : Queue) → locking ≤ q .place → locking ≤ r .place
+    → (u : ℕ) → member u (queueOrder (w .kernel) q ++ queueOrder (w .kernel) r) ≡ true → Started (w .kernel) u
+both-started {w} s q r a b u m = ⊎-elim (all-started s q a u) (all-started s r b u) (member-append u (queueOrder (w .kernel) q) (queueOrder (w .kernel) r) m)

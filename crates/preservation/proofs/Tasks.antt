@@ -1,5 +1,6 @@
 -- The calls on tasks keep what holds between acts.
-use Rattle.model.proofs.Terms.{ℕ, zero, suc, _≤_, _<_, ℕ-discrete, arith, _≡_, _∙_, refl, sym, ap, _≢_, inl, inr, Bool, true, false, cond, false≢true, none, List, _∷_, length, set, set-getD, getD-set-other, ℤ, eqb, eq-eqb, ne-eqb, eqb-true, eqb-false, lt-leb, not-false, tasks, priorities, mutexes, _!_, upTo, number, E-OK, queue, readyQueue, absent, dormant, ready, locking, sending, byPriority, Kernel, Tasks, numbered, withArrivals, withPlace, withInitial, withBase, withCurrent, arrived, facts, effective, effectives, World, Nothing, withKernel, withEnded, running, recompute, arrive, settled, leaveKernel, leave, endWait, unused, firstRefusal, nobodyRuns, badField, badNumber, noSuch, noneFree, chosenTask, chosenBase, aboveCeiling, creTskRefusals, dormantRefusals, terTskRefusals, chgPriRefusals, refusals, creTsk, delTsk, staTsk, extTsk, terTsk, rejoin, chgPri, perform, Each, From, TaskLists, Priorities}
+use mathlib.Core.Logic.{⊎-elim}
+use Rattle.model.proofs.Terms.{ℕ, zero, suc, _≤_, _<_, ℕ-discrete, arith, _≡_, _∙_, refl, sym, ap, _≢_, inl, inr, true, false, cond, false≢true, none, List, _∷_, length, set, set-getD, getD-set-other, ℤ, eqb, eq-eqb, ne-eqb, eqb-true, eqb-false, lt-leb, not-false, tasks, priorities, mutexes, _!_, upTo, number, E-OK, queue, readyQueue, absent, dormant, ready, locking, sending, byPriority, Kernel, Tasks, numbered, withArrivals, withPlace, withInitial, withBase, withCurrent, arrived, facts, effective, effectives, World, Nothing, withKernel, withEnded, running, recompute, arrive, settled, leaveKernel, leave, endWait, unused, firstRefusal, nobodyRuns, badField, badNumber, noSuch, noneFree, chosenTask, chosenBase, aboveCeiling, creTskRefusals, dormantRefusals, terTskRefusals, chgPriRefusals, refusals, creTsk, delTsk, staTsk, extTsk, terTsk, rejoin, chgPri, perform, Each, From, TaskLists, Priorities}
 use Rattle.model.specs.declared.call.Call.the-variants.{CreTsk, DelTsk, StaTsk, ExtTsk, TerTsk, ChgPri}
 use Rattle.model.proofs.ByCase.{leaves-other, recompute-not}
 use Rattle.model.proofs.ListLaws.{or-left, some-passes, bool-ext, member-countFrom}
@@ -11,12 +12,11 @@ use Rattle.priority.specs.Afresh.{byTask}
 use Rattle.priority.specs.Unchanged.{held}
 use Rattle.priority.proofs.StartLaws.{byTask-is}
 use Rattle.priority.proofs.UnchangedLaws.{same-wait, effectives-except, effective-alone, at-effective}
-use Rattle.invariant.specs.Rows.{taskRows, openTasks, openWorld}
-use Rattle.invariant.specs.Invariant.{Range, Invariant, Steady}
+use Rattle.invariant.specs.Rows.{openTasks, openWorld}
+use Rattle.invariant.specs.Invariant.{Invariant, Steady}
 use Rattle.invariant.proofs.Exchange.{inside, numbers, set-by-number, set-here}
-use Rattle.invariant.proofs.Moves.{Unstarted, Time, based, holds-nothing, retasked}
-use Rattle.invariant.proofs.Waits.{ended}
-use Rattle.invariant.proofs.Releases.{steady-settled}
+use Rattle.invariant.proofs.Moves.{Unstarted, based, holds-nothing, retasked}
+use Rattle.invariant.proofs.Waits.{steady-settled, ended}
 use Rattle.invariant.proofs.Dormant.{falls-dormant}
 use Rattle.preservation.proofs.Keeps.{Keeps}
 use Rattle.preservation.proofs.Validity.{under-ceiling}
@@ -27,13 +27,33 @@ unless-zero zero other last h r = r
 unless-zero (suc n) other last h r = rw (ne-eqb (suc n) 0 (λ (z : suc n ≡ 0). omega arith)) (omega arith, h)
 
 -- a call that asks for a dormant task
-is-dormant : (k : Kernel) (task : ℤ) → firstRefusal (nobodyRuns k ∷ dormantRefusals k task) ≡ none
+pub is-dormant : (k : Kernel) (task : ℤ) → firstRefusal (nobodyRuns k ∷ dormantRefusals k task) ≡ none
     → (1 ≤ number task) × (number task ≤ tasks) × (k .tasks .place ! number task ≡ dormant)
 unfolding dormantRefusals badNumber
 is-dormant k task e =
     let passed = none-applies (nobodyRuns k ∷ dormantRefusals k task) e in
     let n = in-range tasks task (passed 1) in
     (n .0, n .1, eqb-true _ dormant (not-false _ (passed 3)))
+
+-- one that asks for a started task
+pub terminated-is-started : (k : Kernel) (task : ℤ) (bytes : List ℕ) → firstRefusal (refusals k (TerTsk task) bytes) ≡ none
+    → (1 ≤ number task) × (number task ≤ tasks) × (ready ≤ k .tasks .place ! number task)
+unfolding refusals terTskRefusals badNumber noSuch
+terminated-is-started k task bytes e =
+    let passed = none-applies (refusals k (TerTsk task) bytes) e in
+    let n = in-range tasks task (passed 1) in
+    let there = eqb-false (k .tasks .place ! number task) 0 (passed 2) in
+    let started : k .tasks .place ! number task ≢ dormant = λ d. false≢true (sym (passed 3) ∙ or-left _ _ (eq-eqb _ dormant d)) in
+    (n .0, n .1, omega arith)
+
+-- and one that asks for a task that is there, the caller for 0
+pub changed-is-there : (k : Kernel) (task priority : ℤ) (bytes : List ℕ) → firstRefusal (refusals k (ChgPri task priority) bytes) ≡ none
+    → From 1 tasks (chosenTask k task) × (k .tasks .place ! chosenTask k task ≢ absent)
+unfolding refusals nobodyRuns chgPriRefusals badField chosenTask chosenBase
+changed-is-there k task priority bytes e =
+    let passed = none-applies (refusals k (ChgPri task priority) bytes) e in
+    let runs = running-stood k (eqb-false _ 0 (passed 0)) in
+    (unless-zero (number task) (running k) tasks (in-range-from-zero tasks task (passed 2)) (runs .low, runs .high), eqb-false _ absent (passed 3))
 
 module _ {w : World} (s : Steady 0 w) where
   abbrev k : Kernel
@@ -65,7 +85,13 @@ module _ {w : World} (s : Steady 0 w) where
     unfolding Priorities effectives byTask facts held openTasks
     priorities-kept =
         let c = set-by-number (lists .current) low p in
-        byTask-is (effective (facts k′)) (k′ .tasks .current) (c .long) (c .noneZero) (λ u i j. go u i j (ℕ-discrete u t))
+        let base = numbered-same (x .base) t p low (inside (lists .base) high) in
+        byTask-is (effective (facts k′)) (k′ .tasks .current) (c .long) (c .noneZero)
+        (λ u i j.
+        elim (ℕ-discrete u t) [
+          | yes e ↦ rw e (set-here (lists .current) high p ∙ sym (effective-alone (facts k′) long t high nothing-held ∙ base))
+          | no d ↦ getD-set-other (x .current) t u p 0 d ∙ ap (λ (cs : List ℕ). cs ! u) (s .priorities) ∙ at-effective (facts k) u i j ∙ other u j d
+        ])
       where
         long : length (facts k′ .place) ≡ suc tasks
         long = numbered-long tasks (set (x .place) t place) (set-by-number (lists .place) low place .long)
@@ -78,13 +104,6 @@ module _ {w : World} (s : Steady 0 w) where
             (λ u d.
             let same = same-wait (facts k) (facts k′) u (sym (numbered-other (x .place) t place u d)) refl in
             record { base = sym (numbered-other (x .base) t p u d); wait = same; mutexes = λ m. refl })
-
-        go : (u : ℕ) → 1 ≤ u → u ≤ tasks → Dec (u ≡ t) → set (x .current) t p ! u ≡ effective (facts k′) u
-        go u i j (yes e) =
-            let base = numbered-same (x .base) t p low (inside (lists .base) high) in
-            rw e (set-here (lists .current) high p ∙ sym (effective-alone (facts k′) long t high nothing-held ∙ base))
-        go u i j (no d) =
-            getD-set-other (x .current) t u p 0 d ∙ ap (λ (cs : List ℕ). cs ! u) (s .priorities) ∙ at-effective (facts k) u i j ∙ other u j d
 
     retasks : Unstarted place p → Steady 0 (withKernel w k′)
     unfolding withKernel
@@ -112,16 +131,11 @@ module _ {w : World} (s : Steady 0 w) where
   module _ (t : ℕ) (low : 1 ≤ t) (high : t ≤ tasks) (was : x .place ! t ≡ dormant) where
     nothing-left : leaveKernel k t ≡ k
     unfolding leaveKernel openTasks
-    nothing-left = go (inv .ofTasks .each t low high .time)
-      where
-        set-zero : (xs : List ℕ) → xs ! t ≡ 0 → set xs t 0 ≡ xs
-        set-zero xs e = ap (set xs t) (sym e) ∙ set-getD xs t 0
-
-        go : Time (queue (x .place ! t) (x .object ! t)) (x .left ! t) → leaveKernel k t ≡ k
-        go (inl (idle, object, left)) =
-            let silent = inv .ofTasks .each t low high .silent (λ (e : x .place ! t ≡ sending). omega arith) in
-            rw (set-zero (x .object) object, set-zero (x .argument) silent, set-zero (x .left) left)
-        go (inr (waits, left)) = absurd (omega arith)
+    nothing-left =
+        let own = inv .ofTasks .each t low high in
+        let silent = own .silent (λ (e : x .place ! t ≡ sending). omega arith) in
+        let set-zero : (xs : List ℕ) → xs ! t ≡ 0 → set xs t 0 ≡ xs = λ xs e. ap (set xs t) (sym e) ∙ set-getD xs t 0 in
+        ⊎-elim (λ g. rw (set-zero (x .object) (g .1), set-zero (x .argument) silent, set-zero (x .left) (g .2))) (λ g. absurd (omega (arith, g .0))) (own .time)
 
     start-is : endWait w t E-OK Nothing ≡ withEnded (withKernel w (arrive k t readyQueue)) t E-OK Nothing
     unfolding endWait leave openWorld
@@ -143,13 +157,8 @@ module _ {w : World} (s : Steady 0 w) where
       falls-dormant s (running k) (f .low) (f .high) (omega (arith, f .place))
 
   pub terminates-task : (task : ℤ) → Keeps w (TerTsk task)
-  unfolding refusals terTskRefusals badNumber noSuch perform terTsk
-  terminates-task task bytes fit e =
-      let passed = none-applies (refusals k (TerTsk task) bytes) e in
-      let n = in-range tasks task (passed 1) in
-      let there = eqb-false (x .place ! number task) 0 (passed 2) in
-      let started : x .place ! number task ≢ dormant = λ d. false≢true (sym (passed 3) ∙ or-left _ _ (eq-eqb _ dormant d)) in
-      falls-dormant s (number task) (n .0) (n .1) (omega arith)
+  unfolding perform terTsk
+  terminates-task task bytes fit e = let n = terminated-is-started k task bytes e in falls-dormant s (number task) (n .0) (n .1) (n .2)
 
   -- ---- a base priority changes: a task in a queue by priority counts as arriving anew
 
@@ -166,31 +175,28 @@ module _ {w : World} (s : Steady 0 w) where
     rejoins : Steady 0 (withKernel w (recompute (rejoin (withBase k t base) t)))
     unfolding settled withKernel rejoin byPriority openTasks
     rejoins =
+        let joins = byPriority (facts (withBase k t base)) (queue (x .place ! t) (x .object ! t)) in
+        let anew = withArrivals (withBase k t base) (arrived t (k .arrivals)) in
         steady-settled w
-        (go (byPriority (facts (withBase k t base)) (queue (x .place ! t) (x .object ! t))) refl (ℕ-discrete (x .place ! t) dormant))
-      where
-        go : (b : Bool) → byPriority (facts (withBase k t base)) (queue (x .place ! t) (x .object ! t)) ≡ b → Dec (x .place ! t ≡ dormant)
-            → Invariant 0 (cond b (withArrivals (withBase k t base) (arrived t (k .arrivals))) (withBase k t base)) (w .store) (w .outbox)
-        go true e (yes d) = absurd (false≢true (rw d at e))
-        go true e (no d) = rebased (rw (set-getD (x .place) t 0) at (arrived-listing (inv .ofTasks .listing) t (x .place ! t) low high (omega arith)))
-        go false e d = rebased (inv .ofTasks .listing)
+        (elim joins as (λ b. joins ≡ b → Invariant 0 (cond b anew (withBase k t base)) (w .store) (w .outbox)) [
+          | true ↦ λ e.
+              let started : x .place ! t ≢ dormant = λ d. false≢true (rw d at e) in
+              rebased (rw (set-getD (x .place) t 0) at (arrived-listing (inv .ofTasks .listing) t (x .place ! t) low high (omega arith)))
+          | false ↦ λ e. rebased (inv .ofTasks .listing)
+        ] refl)
 
   pub changes-priority : (task priority : ℤ) → Keeps w (ChgPri task priority)
-  unfolding refusals nobodyRuns chgPriRefusals badField chosenTask chosenBase perform chgPri
+  unfolding refusals chgPriRefusals badField chosenBase perform chgPri
   changes-priority task priority bytes fit e =
       let passed = none-applies (refusals k (ChgPri task priority) bytes) e in
-      let runs = running-stood k (eqb-false _ 0 (passed 0)) in
       let t = chosenTask k task in
-      let n : From 1 tasks t = unless-zero (number task) (running k) tasks (in-range-from-zero tasks task (passed 2)) (runs .low, runs .high) in
-      let there = eqb-false (x .place ! t) absent (passed 3) in
-      let first = initial t there (inv .ofTasks .each t (n .0) (n .1) .range) in
+      let chosen = changed-is-there k task priority bytes e in
+      let n = chosen .0 in
+      let there = chosen .1 in
+      let first : From 1 priorities (x .initial ! t) = ⊎-elim (λ g. absurd (there (g .0))) (λ g. g .1) (inv .ofTasks .each t (n .0) (n .1) .range) in
       let base = chosenBase k t priority in
       rejoins t (n .0) (n .1) there base
       (unless-zero (number priority) (x .initial ! t) priorities (in-range-from-zero priorities priority (passed 1)) first)
       (λ m i j.
       let has = member-countFrom 1 mutexes m i (omega arith) in
       bool-ext _ false (λ q. sym (passed 4) ∙ some-passes (aboveCeiling k base t) m (upTo mutexes) q has) (λ q. absurd (false≢true q)))
-    where
-      initial : (t : ℕ) → x .place ! t ≢ absent → Range (taskRows x t) → From 1 priorities (x .initial ! t)
-      initial t d (inl g) = absurd (d (g .0))
-      initial t d (inr g) = g .1

@@ -1,5 +1,5 @@
 -- The statements of `Statements`, proved: each name is its statement's.
-use Rattle.model.proofs.Terms.{ℕ-discrete, decLe, _≤_, arith, _≡_, refl, sym, subst, true, Option, none, some, [], _∷_, length, ℤ, eqb, eq-eqb, eqb-true, logBytes, scriptBytes, Kernel, Lent, begun, World, drain, firstRefusal, refusals, perform, effect, Valid, valid, FirstSender, wordCount, kernel, words, fields, sizes, freshLent, refused, carriedOut, validStep, step, readRecord, recordMessage, runScript, lent, isValid, withLog, untouched, returned, lentStep, scriptOver, went, lentRecord}
+use Rattle.model.proofs.Terms.{Areas, ℕ-discrete, decLe, _≤_, arith, _≡_, refl, sym, subst, true, none, some, [], _∷_, length, eqb, eq-eqb, eqb-true, logBytes, scriptBytes, Kernel, Lent, begun, World, firstRefusal, refusals, perform, effect, Valid, valid, FirstSender, wordCount, kernel, words, fields, sizes, freshLent, refused, carriedOut, validStep, readRecord, recordMessage, lent, isValid, withLog, untouched, returned, scriptOver, went, lentRecord}
 use mathlib.Core.Bool.{and-eq-true-iff}
 use Rattle.model.specs.declared.call.Call.{Call}
 use Rattle.model.specs.declared.call.Call.the-variants.{CreTsk, DelTsk, StaTsk, ExtTsk, TerTsk, ChgPri, CreMtx, DelMtx, LocMtx, UnlMtx, CreMbf, DelMbf, SndMbf, RcvMbf, CreMpf, DelMpf, GetMpf, RelMpf, Tick}
@@ -25,7 +25,7 @@ pub use Rattle.preservation.proofs.Records.{records-fit, scripts-fit, r
 
 -- ---- one call
 
-keeps : {w : World} → Steady 0 w → (c : Call) → Keeps w c
+pub keeps : {w : World} → Steady 0 w → (c : Call) → Keeps w c
 keeps s (CreTsk priority) = creates-task s priority
 keeps s (DelTsk task) = deletes-task s task
 keeps s (StaTsk task) = starts-task s task
@@ -53,16 +53,15 @@ pub fresh-is-valid : FreshIsValid
 fresh-is-valid = valid-agrees freshLent .0 fresh-valid
 
 pub calls-keep-valid : CallsKeepValid
-calls-keep-valid x c bytes fit v = rw (step-valid x c bytes (valid-agrees x .1 v)) (go (firstRefusal (refusals (x .kernel) c bytes)) refl)
-  where
-    carried : firstRefusal (refusals (x .kernel) c bytes) ≡ none → Valid (carriedOut (effect (begun x) c bytes) .lent)
-    carried q =
-        let d = drained (perform (begun x) c bytes .world) (keeps (valid-steady x v) c bytes fit q) in
-        unfold carriedOut effect in steady-valid (drain (perform (begun x) c bytes .world)) (d .0) (d .1)
-
-    go : (r : Option ℤ) → firstRefusal (refusals (x .kernel) c bytes) ≡ r → Valid (validStep x c bytes .lent)
-    go (some e) q = rw (step-refused x c bytes q) (unfold refused in v)
-    go none q = rw (step-done x c bytes q) (carried q)
+unfolding carriedOut effect refused
+calls-keep-valid x c bytes fit v =
+    rw (step-valid x c bytes (valid-agrees x .1 v))
+    (elim (firstRefusal (refusals (x .kernel) c bytes)) as (λ r. firstRefusal (refusals (x .kernel) c bytes) ≡ r → Valid (validStep x c bytes .lent)) [
+      | some e ↦ λ q. rw (step-refused x c bytes q) v
+      | none ↦ λ q.
+          let d = drained (perform (begun x) c bytes .world) (keeps (valid-steady x v) c bytes fit q) in
+          rw (step-done x c bytes q) (steady-valid _ (d .0) (d .1))
+    ] refl)
 
 pub every-drain-ends : EveryDrainEnds
 every-drain-ends x c bytes fit v q =
@@ -80,7 +79,7 @@ calls-keep-test x c bytes fit e = valid-agrees _ .1 (calls-keep-valid x c bytes 
 -- ---- lent words
 
 -- a valid kernel's lists have the sizes of their fields, so its words are a state's
-valid-sized : (x : Lent) → Valid x → Sized (x .kernel)
+pub valid-sized : (x : Lent) → Valid x → Sized (x .kernel)
 unfolding Sized fields sizes
 valid-sized x v =
     let t = v .isTaskLists in
@@ -106,18 +105,19 @@ valid-words x v =
 pub fresh-words-are-valid : FreshWordsAreValid
 fresh-words-are-valid = (unfold freshLent in valid-words freshLent fresh-is-valid)
 
+-- valid areas have the words of a state, and what they hold is valid
+pub areas-hold : (a : Areas) → ValidAreas a → (length (a .words) ≡ wordCount) × Valid (lent (a .words) (a .store) (a .outbox))
+unfolding isValid
+areas-hold a e = let b = and-eq-true-iff (eqb (length (a .words)) wordCount) _ .0 e in (eqb-true _ _ (b .0), valid-agrees _ .0 (b .1))
+
 pub lent-calls-keep-valid : LentCallsKeepValid
-lent-calls-keep-valid a c bytes fit e = go (ℕ-discrete (length (a .log)) logBytes)
-  where
-    x : Lent
-    x = lent (a .words) (a .store) (a .outbox)
-
-    known : (length (a .words) ≡ wordCount) × Valid x
-    known = let b = and-eq-true-iff (eqb (length (a .words)) wordCount) (valid x) .0 (unfold isValid in e) in (eqb-true _ _ (b .0), valid-agrees x .0 (b .1))
-
-    go : Dec (length (a .log) ≡ logBytes) → ValidAreas (lentStep a c bytes .areas)
-    go (no d) = rw (lent-untouched a c bytes d) (unfold untouched in e)
-    go (yes l) = rw (lent-step a c bytes (known .0) l) (unfold returned withLog in valid-words (step x c bytes .lent) (calls-keep-valid x c bytes fit (known .1)))
+unfolding untouched returned withLog
+lent-calls-keep-valid a c bytes fit e =
+    let h = areas-hold a e in
+    elim (ℕ-discrete (length (a .log)) logBytes) [
+      | yes l ↦ rw (lent-step a c bytes (h .0) l) (valid-words _ (calls-keep-valid _ c bytes fit (h .1)))
+      | no d ↦ rw (lent-untouched a c bytes d) e
+    ]
 
 -- ---- lists, runs and scripts
 
@@ -129,20 +129,21 @@ pub runs-keep-valid : RunsKeepValid
 runs-keep-valid x script v = rw (runs-are-lists x script) (lists-keep-valid x (entriesOf script) (scripts-fit script) v)
 
 pub scripts-keep-valid : ScriptsKeepValid
-scripts-keep-valid x script v = go (decLe (length script) scriptBytes)
-  where
-    go : Dec (length script ≤ scriptBytes) → Valid (runScript x script .lent)
-    go (yes h) = rw (script-runs x script h) (runs-keep-valid x script v)
-    go (no h) = rw (script-too-long x script (omega arith)) v
+scripts-keep-valid x script v =
+    elim (decLe (length script) scriptBytes) [
+      | yes h ↦ rw (script-runs x script h) (runs-keep-valid x script v)
+      | no h ↦ rw (script-too-long x script (omega arith)) v
+    ]
 
 pub lent-records-keep-valid : LentRecordsKeepValid
+unfolding scriptOver withLog
 lent-records-keep-valid a script at v = go (ℕ-discrete (length (a .log)) logBytes) (decLe (length script) scriptBytes) (decLe (length script) at) (readRecord script at) refl
   where
     go : Dec (length (a .log) ≡ logBytes) → Dec (length script ≤ scriptBytes) → Dec (length script ≤ at) → (r : Read) → readRecord script at ≡ r
         → ValidAreas (lentRecord a script at .areas)
     go (no d) s h r e = rw (record-no-area a script at d) v
-    go (yes l) (no s) h r e = rw (record-too-long a script at l (omega arith)) (unfold scriptOver withLog in v)
-    go (yes l) (yes s) (yes h) r e = rw (record-end a script at l s h) (unfold scriptOver withLog in v)
-    go (yes l) (yes s) (no h) (Stop offset) e = rw (record-stops a script at l s (omega arith) e) (unfold scriptOver withLog in v)
+    go (yes l) (no s) h r e = rw (record-too-long a script at l (omega arith)) v
+    go (yes l) (yes s) (yes h) r e = rw (record-end a script at l s h) v
+    go (yes l) (yes s) (no h) (Stop offset) e = rw (record-stops a script at l s (omega arith) e) v
     go (yes l) (yes s) (no h) (Record c next) e =
         rw (record-runs a script at l s (omega arith) e) (unfold went in lent-calls-keep-valid a c (recordMessage script at) (records-fit script at c next e) v)

@@ -9,7 +9,7 @@ use Rattle.model.proofs.Folds.{numbers-keep}
 use Rattle.invariant.proofs.Waits.{ended}
 use Rattle.preservation.proofs.Keeps.{Keeps}
 
-ticks-task : {w : World} → Steady 0 w → (t : ℕ) → 1 ≤ t → t ≤ tasks → Steady 0 (tickTask w t)
+pub ticks-task : {w : World} → Steady 0 w → (t : ℕ) → 1 ≤ t → t ≤ tasks → Steady 0 (tickTask w t)
 unfolding withKernel Priorities facts standsIn openTasks
 ticks-task {w} s t low high = go (s .invariant .ofTasks .each t low high .time) (ℕ-discrete left 1)
   where

@@ -7,10 +7,14 @@ pub record Entry : Type 0 where
   pub call : Call
   pub bytes : List ℕ
 
+-- of every one of a list
+abbrev pub Every : {A : Type 0} → (A → Type 0) → List A → Type 0
+Every P [] = Unit {0}
+Every P (x ∷ xs) = P x × Every P xs
+
 -- "Fields are signed 32-bit": of every call
 abbrev pub AllFit : List Entry → Type 0
-AllFit [] = Unit {0}
-AllFit (e ∷ es) = FieldsFit (e .call) × AllFit es
+AllFit = Every (λ e. FieldsFit (e .call))
 
 -- what comes of an entry, and what it leaves
 abbrev pub outcome : Lent → Entry → Outcome
