@@ -1,0 +1,13 @@
+pub mod Tables
+pub mod Lines
+pub mod Bridge
+pub mod Entries
+pub mod Acts
+pub mod Dormant
+pub mod Enters
+pub mod Tasks
+pub mod Mutexes
+pub mod Buffers
+pub mod Pools
+pub mod Time
+pub mod Theorems
