@@ -1,0 +1,5 @@
+pub mod Lasting
+pub mod Reasons
+pub mod Along
+pub mod Lent
+pub mod Theorems

@@ -1,0 +1,4 @@
+pub mod History
+pub mod LentHistory
+pub mod Reasons
+pub mod Statements

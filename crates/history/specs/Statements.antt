@@ -1,0 +1,98 @@
+-- Demand 3: what is to be proved, each as a type; `Theorems` proves them.
+use Rattle.model.proofs.Terms.{ℕ, _≤_, _<_, _≡_, _≢_, none, some, cond, List, [], _∷_, _++_, length, getD, leb, logBytes, scriptBytes, tasks, _!_, Queue, ready, locking, queueOrder, running, From, Valid, wordCount, freshLent, step, runFrom, run, runScript, Areas, returned, lentStep, MutexEntry, Ledger, join, standing, ledgerPriorities, ledgerOrder, ledgerRuns}
+use Rattle.model.specs.declared.call.Call.{Call}
+use Rattle.preservation.specs.Entries.{Entry, AllFit, entriesOf}
+use Rattle.preservation.specs.Statements.{ValidAreas}
+use Rattle.history.specs.History.{WithLedger, history}
+use Rattle.history.specs.LentHistory.{Invocation, AreasWithLedger, lentIn, withLedgerIn, historyLent, AllInvocationsFit, callsIn}
+use Rattle.history.specs.Reasons.{Has, waitOf, Reason}
+
+-- "every started task's current priority, every waiting line's order and the running task equal what you get by throwing those away and working them out afresh
+-- from base priorities, mutexes held, waits and joining order", circles of waiting tasks included: of dormant and absent tasks too, and of every queue
+pub record Agrees (b : WithLedger) : Type 0 where
+  pub valid : Valid (b .lent)
+  pub priorities : b .lent .kernel .tasks .current ≡ ledgerPriorities (b .ledger)
+  pub orders : (q : Queue) → queueOrder (b .lent .kernel) q ≡ ledgerOrder (b .ledger) q
+  pub runs : running (b .lent .kernel) ≡ ledgerRuns (b .ledger)
+
+-- "After the list": any list of calls whose fields fit 32 bits, with any bytes, refused ones too
+abbrev pub ListsAgree : Type 0
+ListsAgree = (es : List Entry) → AllFit es → Agrees (history es)
+
+-- "And across each call of the list a task's priority differs only if": one reason at least
+abbrev pub Explained : WithLedger → WithLedger → ℕ → Type 0
+Explained a b t = a .lent .kernel .tasks .current ! t ≢ b .lent .kernel .tasks .current ! t → Reason (a .ledger) (b .ledger) t
+
+-- At each place of a list, where `result` says what each of its beginnings comes to: of a task that the ledger has before and after.
+abbrev pub EachExplained : {A : Type 0} → (List A → WithLedger) → List A → Type 0
+EachExplained {A} result list =
+    (before behind : List A) (one : A) → list ≡ before ++ one ∷ behind
+    → (t : ℕ) → Has (result before .ledger) t → Has (result (before ++ one ∷ []) .ledger) t → Explained (result before) (result (before ++ one ∷ [])) t
+
+abbrev pub ListsAreExplained : Type 0
+ListsAreExplained = (es : List Entry) → AllFit es → EachExplained history es
+
+-- It holds of every number, whether the ledger has such a task or not: one that is created or deleted has a base that changes.
+abbrev pub EveryNumberExplained : Type 0
+EveryNumberExplained = (es : List Entry) (e : Entry) → AllFit (es ++ e ∷ []) → (t : ℕ) → Explained (history es) (history (es ++ e ∷ [])) t
+
+-- ---- what the reasons are made of
+
+-- The mutexes that a task holds are their numbers: one that the ledger has before and after a call keeps its attribute and ceiling.
+abbrev pub MutexesKeepShape : Type 0
+MutexesKeepShape =
+    (es : List Entry) (e : Entry) → AllFit (es ++ e ∷ []) → (m : ℕ) (a b : MutexEntry)
+    → getD (history es .ledger .mutexes) m none ≡ some a → getD (history (es ++ e ∷ []) .ledger .mutexes) m none ≡ some b
+    → (a .attribute ≡ b .attribute) × (a .ceiling ≡ b .ceiling)
+
+-- From ready to dormant is no change of wait,
+abbrev pub ReadyIsNoWait : Type 0
+ReadyIsNoWait = (l j : Ledger) (t : ℕ) → standing l t .place < locking → standing j t .place < locking → waitOf l t ≡ waitOf j t
+
+-- and joining anew in the same line is none.
+abbrev pub JoiningAnewIsNoChange : Type 0
+JoiningAnewIsNoChange =
+    (es : List Entry) → AllFit es → (t : ℕ) → From 1 tasks t → let l = history es .ledger in ready ≤ standing l t .place → waitOf (join l t (standing l t)) t ≡ waitOf l t
+
+-- ---- scripts, whatever the bytes: a run of records of any length, and a script, which is not run if it is too long
+
+abbrev pub RunsAgree : Type 0
+RunsAgree = (script : List ℕ) → Agrees (record { lent = run freshLent script .lent; ledger = history (entriesOf script) .ledger })
+
+abbrev pub RunsAreExplained : Type 0
+RunsAreExplained = (script : List ℕ) → EachExplained history (entriesOf script)
+
+-- between two of its calls a run is where the list of those before is
+abbrev pub RunsPassThrough : Type 0
+RunsPassThrough = (script : List ℕ) (before behind : List Entry) → entriesOf script ≡ before ++ behind → runFrom (length before) freshLent script 0 .lent ≡ history before .lent
+
+abbrev pub entriesRun : List ℕ → List Entry
+entriesRun script = cond (leb (length script) scriptBytes) (entriesOf script) []
+
+abbrev pub ScriptsAgree : Type 0
+ScriptsAgree = (script : List ℕ) → Agrees (record { lent = runScript freshLent script .lent; ledger = history (entriesRun script) .ledger })
+
+abbrev pub ScriptsAreExplained : Type 0
+ScriptsAreExplained = (script : List ℕ) → EachExplained history (entriesRun script)
+
+-- ---- lent words, however the public functions are invoked on them
+
+-- the words and areas are valid, and what they hold agrees
+pub record AgreesLent (b : AreasWithLedger) : Type 0 where
+  pub valid : ValidAreas (b .areas)
+  pub agrees : Agrees (withLedgerIn b)
+
+abbrev pub LentListsAgree : Type 0
+LentListsAgree = (is : List Invocation) → AllInvocationsFit is → AgreesLent (historyLent is)
+
+abbrev pub LentListsAreExplained : Type 0
+LentListsAreExplained = (is : List Invocation) → AllInvocationsFit is → EachExplained (λ js. withLedgerIn (historyLent js)) is
+
+-- They hold what the list of the calls that are made leaves, and the ledger is the same.
+abbrev pub LentIsHistory : Type 0
+LentIsHistory = (is : List Invocation) → AllInvocationsFit is → withLedgerIn (historyLent is) ≡ history (callsIn is)
+
+-- What is logged is the step whose ended waits the ledger is fed, where the words are a state's and the log's area has its length. A record's call is made through `lentStep`.
+abbrev pub LentStepIsStep : Type 0
+LentStepIsStep =
+    (a : Areas) (c : Call) (bytes : List ℕ) → length (a .words) ≡ wordCount → length (a .log) ≡ logBytes → lentStep a c bytes ≡ returned a (step (lentIn a) c bytes)
