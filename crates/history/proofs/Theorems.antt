@@ -1,5 +1,6 @@
 -- The statements of `Statements`, proved: each name is its statement's.
-use Rattle.model.proofs.Terms.{_≤_, FieldsFit, Queue, Ledger, join, ℕ, subst, append-nil, decLe, arith, _≡_, _∙_, refl, sym, ap, List, [], _∷_, _++_, foldl, foldl-append, append-assoc, cond, none, some, true, false, leb, length, le-leb, lt-leb, scriptBytes, locking, fresh, freshLent, standing}
+use Rattle.model.proofs.Terms.{ltb, le-ltb, lt-ltb, _≤_, FieldsFit, Queue, Ledger, join, ℕ, subst, append-nil, decLe, arith, _≡_, _∙_, refl, sym, ap, List, [], _∷_, _++_, foldl, foldl-append, append-assoc, cond, none, some, leb, length, lt-leb, scriptBytes, locking, fresh, freshLent, standing}
+use Rattle.model.proofs.ListLaws.{either}
 use Rattle.model.proofs.ByCase.{script-runs, script-too-long}
 use Rattle.state.proofs.WordLaws.{represents}
 use Rattle.state.proofs.LentLaws.{lent-step}
@@ -12,7 +13,7 @@ use Rattle.ledger.proofs.Lines.{joined-anew}
 use Rattle.history.specs.History.{WithLedger, advance, start, history}
 use Rattle.history.specs.LentHistory.{InvocationFits, AllInvocationsFit, Invocation, startLent, historyLent, withLedgerIn, callIn, callsIn}
 use Rattle.history.specs.Reasons.{waitOf}
-use Rattle.history.specs.Statements.{RunsPassThrough, Explained, ListsAgree, ListsAreExplained, EveryNumberExplained, MutexesKeepShape, ReadyIsNoWait, JoiningAnewIsNoChange, RunsAgree, RunsAreExplained, entriesRun, ScriptsAgree, ScriptsAreExplained, LentListsAgree, LentListsAreExplained, LentIsHistory, LentStepIsStep}
+use Rattle.history.specs.Statements.{RunsAreHistory, ScriptsAreHistory, OneCallAtMost, RunsPassThrough, Explained, ListsAgree, ListsAreExplained, EveryNumberExplained, MutexesKeepShape, ReadyIsNoWait, JoiningAnewIsNoChange, RunsAgree, RunsAreExplained, entriesRun, ScriptsAgree, ScriptsAreExplained, LentListsAgree, LentListsAreExplained, LentIsHistory, LentStepIsStep}
 use Rattle.history.proofs.Lasting.{entries-last, call-lasts}
 use Rattle.history.proofs.Reasons.{reason}
 use Rattle.history.proofs.Lent.{calls-append, calls-fit, few-calls, lent-along}
@@ -64,9 +65,12 @@ unfolding advance
 lent-after [] b = refl
 lent-after (e ∷ es) b = lent-after es (advance b e)
 
-pub runs-agree : RunsAgree
+pub runs-are-history : RunsAreHistory
 unfolding history start
-runs-agree script = let es = entriesOf script in rw (runs-are-lists freshLent script, ← lent-after es start) (lists-agree es (scripts-fit script))
+runs-are-history script = runs-are-lists freshLent script ∙ sym (lent-after (entriesOf script) start)
+
+pub runs-agree : RunsAgree
+runs-agree script = rw (runs-are-history script) (lists-agree (entriesOf script) (scripts-fit script))
 
 pub runs-are-explained : RunsAreExplained
 runs-are-explained script = lists-are-explained (entriesOf script) (scripts-fit script)
@@ -76,20 +80,27 @@ unfolding history start entriesOf
 runs-pass-through script before behind e =
     run-is script (length before) freshLent 0 ∙ rw (entries-part script before (length script) 0 behind e, lent-after before start)
 
-pub scripts-agree : ScriptsAgree
+pub scripts-are-history : ScriptsAreHistory
 unfolding history start
-scripts-agree script =
+scripts-are-history script =
     elim (decLe (length script) scriptBytes) [
-      | yes h ↦ rw (script-runs freshLent script h, le-leb (length script) scriptBytes h) (runs-agree script)
-      | no h ↦ rw (script-too-long freshLent script (omega arith), lt-leb (length script) scriptBytes (omega arith)) (lists-agree [] tt)
+      | yes h ↦ rw (script-runs freshLent script h, le-ltb scriptBytes (length script) h) (runs-are-history script)
+      | no h ↦ rw (script-too-long freshLent script (omega arith), lt-ltb scriptBytes (length script) (omega arith))
     ]
 
+run-fits : (script : List ℕ) → AllFit (entriesRun script)
+run-fits script = either AllFit (ltb scriptBytes (length script)) tt (scripts-fit script)
+
+pub scripts-agree : ScriptsAgree
+scripts-agree script = rw (scripts-are-history script) (lists-agree (entriesRun script) (run-fits script))
+
 pub scripts-are-explained : ScriptsAreExplained
-scripts-are-explained script =
-    lists-are-explained (entriesRun script)
-    (elim (leb (length script) scriptBytes) as (λ b. AllFit (cond b (entriesOf script) [])) [ true ↦ scripts-fit script | false ↦ tt ])
+scripts-are-explained script = lists-are-explained (entriesRun script) (run-fits script)
 
 -- ---- lent words
+
+pub one-call-at-most : OneCallAtMost
+one-call-at-most = few-calls
 
 lent-history : (is : List Invocation) → AllInvocationsFit is → (withLedgerIn (historyLent is) ≡ history (callsIn is)) × ValidAreas (historyLent is .areas)
 unfolding history start historyLent startLent freshLent

@@ -1,10 +1,10 @@
 -- Demand 3: what is to be proved, each as a type; `Theorems` proves them.
-use Rattle.model.proofs.Terms.{ℕ, _≤_, _<_, _≡_, _≢_, none, some, cond, List, [], _∷_, _++_, length, getD, leb, logBytes, scriptBytes, tasks, _!_, Queue, ready, locking, queueOrder, running, From, Valid, wordCount, freshLent, step, runFrom, run, runScript, Areas, returned, lentStep, MutexEntry, Ledger, join, standing, ledgerPriorities, ledgerOrder, ledgerRuns}
+use Rattle.model.proofs.Terms.{ℕ, _≤_, _<_, _≡_, _≢_, none, some, cond, List, [], _∷_, _++_, length, getD, ltb, logBytes, scriptBytes, tasks, _!_, Queue, ready, locking, queueOrder, running, From, Valid, wordCount, freshLent, step, runFrom, run, runScript, Areas, returned, lentStep, MutexEntry, Ledger, join, standing, ledgerPriorities, ledgerOrder, ledgerRuns}
 use Rattle.model.specs.declared.call.Call.{Call}
 use Rattle.preservation.specs.Entries.{Entry, AllFit, entriesOf}
 use Rattle.preservation.specs.Statements.{ValidAreas}
 use Rattle.history.specs.History.{WithLedger, history}
-use Rattle.history.specs.LentHistory.{Invocation, AreasWithLedger, lentIn, withLedgerIn, historyLent, AllInvocationsFit, callsIn}
+use Rattle.history.specs.LentHistory.{Invocation, AreasWithLedger, lentIn, withLedgerIn, historyLent, AllInvocationsFit, callIn, callsIn}
 use Rattle.history.specs.Reasons.{Has, waitOf, Reason}
 
 -- "every started task's current priority, every waiting line's order and the running task equal what you get by throwing those away and working them out afresh
@@ -56,18 +56,25 @@ JoiningAnewIsNoChange =
 
 -- ---- scripts, whatever the bytes: a run of records of any length, and a script, which is not run if it is too long
 
+-- a run leaves what the list of its records leaves
+abbrev pub RunsAreHistory : Type 0
+RunsAreHistory = (script : List ℕ) → run freshLent script .lent ≡ history (entriesOf script) .lent
+
 abbrev pub RunsAgree : Type 0
 RunsAgree = (script : List ℕ) → Agrees (record { lent = run freshLent script .lent; ledger = history (entriesOf script) .ledger })
 
 abbrev pub RunsAreExplained : Type 0
 RunsAreExplained = (script : List ℕ) → EachExplained history (entriesOf script)
 
--- between two of its calls a run is where the list of those before is
+-- and one that is cut after some of its records leaves what the list of those leaves
 abbrev pub RunsPassThrough : Type 0
 RunsPassThrough = (script : List ℕ) (before behind : List Entry) → entriesOf script ≡ before ++ behind → runFrom (length before) freshLent script 0 .lent ≡ history before .lent
 
 abbrev pub entriesRun : List ℕ → List Entry
-entriesRun script = cond (leb (length script) scriptBytes) (entriesOf script) []
+entriesRun script = cond (ltb scriptBytes (length script)) [] (entriesOf script)
+
+abbrev pub ScriptsAreHistory : Type 0
+ScriptsAreHistory = (script : List ℕ) → runScript freshLent script .lent ≡ history (entriesRun script) .lent
 
 abbrev pub ScriptsAgree : Type 0
 ScriptsAgree = (script : List ℕ) → Agrees (record { lent = runScript freshLent script .lent; ledger = history (entriesRun script) .ledger })
@@ -75,7 +82,10 @@ ScriptsAgree = (script : List ℕ) → Agrees (record { lent = runScript freshLe
 abbrev pub ScriptsAreExplained : Type 0
 ScriptsAreExplained = (script : List ℕ) → EachExplained history (entriesRun script)
 
--- ---- lent words, however the public functions are invoked on them
+-- ---- lent words, however the public functions are invoked on them: one call each time at most
+
+abbrev pub OneCallAtMost : Type 0
+OneCallAtMost = (i : Invocation) → length (callIn i) ≤ 1
 
 -- the words and areas are valid, and what they hold agrees
 pub record AgreesLent (b : AreasWithLedger) : Type 0 where
