@@ -4,14 +4,12 @@ use super::copy::fill_zero;
 use super::copy::least;
 use super::part::outbox_part;
 use super::region::clear;
-use super::store::store_append;
-use model::number::BufferNumber;
 use model::number::TaskNumber;
 ghost use mathlib.Core.Path.{_≡_};
 ghost use mathlib.Core.List.{[]};
 ghost use lib.ListN.{length, take};
 ghost use Rattle.model.specs.Lists.{padded};
-ghost use Rattle.model.specs.Message.{appended, region, withRegion, outboxMessage, withOutboxMessage};
+ghost use Rattle.model.specs.Message.{outboxMessage, withOutboxMessage};
 
 // The first n bytes of m, and zeros up to the end of a slice.
 fn fill(p: &mut [u8], m: &[u8], n: usize)
@@ -48,19 +46,4 @@ pub fn outbox_message<'a>(outbox: &'a [u8], t: TaskNumber, n: usize) -> &'a [u8]
     let a = p.start;
     let e = a + least(n, p.end - a);
     &outbox[a..e]
-}
-
-// A waiting sender's message becomes the newest of a buffer.
-pub fn move_to_store(
-    store: &mut [u8],
-    b: BufferNumber,
-    used: usize,
-    outbox: &[u8],
-    t: TaskNumber,
-    n: usize,
-)
-    ensures { λ _. ⌜ now (store .exit) ≡ withRegion (b .0) (now (store .entry)) (appended (region (b .0) (now (store .entry))) used (outboxMessage (t .0) n (now (outbox .entry)))) ⌝ }
-{
-    let m = outbox_message(outbox, t, n);
-    store_append(store, b, used, m, m.len());
 }

@@ -6,7 +6,7 @@ use super::sizes::POOLS;
 use super::sizes::TASKS;
 ghost use mathlib.Core.Path.{_≡_};
 ghost use Rattle.model.specs.Sizes.{tasks, mutexes, buffers, pools};
-ghost use Rattle.model.specs.Code.{lowByte};
+ghost use Rattle.model.specs.Code.{number, lowByte};
 ghost use Rattle.model.specs.Number.{fieldNumber, wordNumber, maybeTask, taskWord, maybeMutex, maybeBuffer, maybePool};
 
 pub struct TaskNumber(u32);
@@ -45,15 +45,18 @@ fn word_number(n: u32, last: u32) -> u32
     if last < n { 0 } else { n }
 }
 
-// A field that is a number up to the last, else 0: the one test of a signed number.
+// A field as a number, 0 for one below 0: the one place where a field loses its sign.
+pub fn natural(n: i32) -> u32
+    ensures { λ r. ⌜ r ≡ number n ⌝ }
+{
+    if n < 0 { 0 } else { n as u32 }
+}
+
+// A field that is a number up to the last, else 0.
 fn field_number(n: i32, last: u32) -> u32
     ensures { λ r. ⌜ r ≡ fieldNumber n last ⌝ }
 {
-    if n < 0 {
-        0
-    } else {
-        word_number(n as u32, last)
-    }
+    word_number(natural(n), last)
 }
 
 impl TaskNumber {

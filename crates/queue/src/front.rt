@@ -78,7 +78,7 @@ fn pool_attribute(state: &[u32], n: u32) -> u32
 }
 
 // The current priority of a task by its number, 0 where there is none.
-pub(crate) fn current(state: &[u32], u: u32) -> u32
+pub fn current(state: &[u32], u: u32) -> u32
     requires { ⌜ length (now state) ≡ wordCount ⌝ }
     ensures { λ r. ⌜ r ≡ numbered (kernel (now (state .entry)) .tasks .current) ! u ⌝ }
 {

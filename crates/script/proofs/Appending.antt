@@ -10,7 +10,7 @@ use lib.Seq.{paste, paste-zero, length-paste, take-paste, drop-paste, take-lengt
 use borrow.Author.Tests.{le-leb, lt-leb}
 use Rattle.model.specs.World.{Ended}
 use Rattle.model.specs.Log.{endedBytes, deliveryBytes}
-use Rattle.script.specs.Place.{room, placed, nextPlace, Appends}
+use Rattle.script.specs.Place.{room, placed, nextPlace, Appends, Wrote}
 use Rattle.model.specs.Message.{over, overwritten}
 use Rattle.script.specs.Item.{endedWith}
 
@@ -89,6 +89,23 @@ module _ (area : List ℕ) (at : ℕ) where
   pub none : Appends area at [] area at
   unfolding placed nextPlace
   none = let e = either (room (length area) at 0) in record { area = sym (e .0); place = sym (e .1) }
+
+-- One append, and appends behind appends: nothing is asked of the room.
+pub wrote : {before : List ℕ} {at : ℕ} {bytes after : List ℕ} {next : ℕ} → Appends before at bytes after next → Wrote before at bytes after next
+wrote p = record { all = λ h. p }
+
+pub wrote-more : {before mid after xs ys : List ℕ} {at m next : ℕ} → Wrote before at xs mid m → Wrote mid m ys after next
+    → Wrote before at (xs ++ ys) after next
+wrote-more {before} {mid} {after} {xs} {ys} {at} {m} {next} f g =
+    record {
+      all = λ h.
+          let size = length-append xs ys in
+          let first = f .all (omega (arith, size)) in
+          let em : m ≡ at + length xs = first .place ∙ next-room before at xs (omega (arith, size)) in
+          let el : length mid ≡ length before =
+          ap length (first .area ∙ placed-room before at xs (omega (arith, size))) ∙ length-over before at xs (omega (arith, size)) in
+          two before at xs ys (omega (arith, size)) mid after m next first (g .all (omega (arith, size)));
+    }
 
 -- an append at the front of an area, as the definition of a record's log has it
 pub front : (area bytes after : List ℕ) (next : ℕ) → length bytes ≤ length area → Appends area 0 bytes after next

@@ -1,5 +1,5 @@
 -- Bytes in a lent area: they go to a place whole, and every other byte stays as it came; or nothing is written.
-use Prim.Native.Nat.{ℕ, _+_}
+use Prim.Native.Nat.{ℕ, _+_, _≤_}
 use mathlib.Core.Path.{_≡_}
 use mathlib.Core.Bool.{Bool, cond}
 use mathlib.Core.List.{List}
@@ -23,3 +23,8 @@ nextPlace area at bytes = cond (room (length area) at (length bytes)) (at + leng
 pub record Appends (before : List ℕ) (at : ℕ) (bytes after : List ℕ) (next : ℕ) : Type 0 where
   pub area : after ≡ placed before at bytes
   pub place : next ≡ nextPlace before at bytes
+
+-- What several appends leave: as one append of all their bytes, if there is room for all of them. Without it an item that does not fit is left
+-- out, and a shorter one behind it may still be written.
+pub record Wrote (before : List ℕ) (at : ℕ) (bytes after : List ℕ) (next : ℕ) : Type 0 where
+  pub all : at + length bytes ≤ length before → Appends before at bytes after next
