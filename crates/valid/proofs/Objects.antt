@@ -1,20 +1,21 @@
--- Laws of the tests of one object: entries by a word that names an object or nothing, who may hold a mutex, and what is waited for.
--- Assumes nothing.
+-- Laws of the tests of one object: entries by a word that names an object or nothing, who may hold a mutex, what is waited
+-- for, and a base above no ceiling. Assumes nothing.
 use Prim.Native.Nat.{ℕ, suc}
 use native.Mathlib.Omega.{arith}
-use mathlib.Core.Path.{_≡_, _∙_, sym, ap}
+use mathlib.Core.Path.{_≡_, _∙_, refl, sym, ap}
 use mathlib.Core.Logic.{inl, inr}
-use mathlib.Core.Bool.{true, false, _||_}
-use mathlib.Core.List.{List}
+use mathlib.Core.Bool.{Bool, true, false, _&&_, _||_, not}
+use mathlib.Core.List.{List, [], _∷_}
 use lib.ListN.{length, List·getD-eq-default}
 use lib.Dec.{eqb, leb}
 use borrow.Author.Tests.{eq-eqb, ne-eqb}
-use Rattle.model.specs.Sizes.{tasks}
-use Rattle.model.specs.Lists.{_!_}
+use Rattle.model.specs.Sizes.{tasks, mutexes}
+use Rattle.model.specs.Lists.{_!_, all, any, upTo}
 use Rattle.model.specs.Facts.{ready, locking, getting}
 use Rattle.model.specs.Number.{wordNumber, maybeTask}
 use Rattle.model.specs.Kernel.{Kernel}
-use Rattle.model.specs.Valid.{awaitable}
+use Rattle.model.specs.Refusal.{aboveCeiling}
+use Rattle.model.specs.Valid.{awaitable, ceiling}
 use Rattle.model.specs.declared.number.MaybeTask.{MaybeTask}
 use Rattle.model.proofs.NumberLaws.{NamesNone, Kind, taskKind, named, unnamed}
 use Rattle.model.specs.Words.{wordCount, sizes, fields, kernel}
@@ -67,3 +68,18 @@ module _ (k : Kernel) (place object r : ℕ) where
     pub awaits-buffer : (place ≡ getting → ⊥) → r ≡ k .buffers .exists ! object → r ≡ awaitable k place ! object
     unfolding awaitable
     awaits-buffer f q = rw (ne-eqb place locking d, ne-eqb place getting f) q
+
+-- ---- a base that is above no ceiling
+
+not-any : (p : ℕ → Bool) (xs : List ℕ) → not (any p xs) ≡ all (λ x. not (p x)) xs
+not-any p [] = refl
+not-any p (x ∷ xs) = go (p x) (not-any p xs)
+  where
+    go : (b : Bool) → not (any p xs) ≡ all (λ x. not (p x)) xs → not (b || any p xs) ≡ not b && all (λ x. not (p x)) xs
+    go true rest = refl
+    go false rest = rest
+
+pub above-none : (k : Kernel) (t : ℕ) {base : ℕ} {r : Bool} → base ≡ k .tasks .base ! t → r ≡ any (aboveCeiling k base t) (upTo mutexes)
+    → not r ≡ all (ceiling k t) (upTo mutexes)
+unfolding ceiling
+above-none k t b e = rw (e, b) (not-any (aboveCeiling k (k .tasks .base ! t) t) (upTo mutexes))

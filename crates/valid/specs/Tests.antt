@@ -142,7 +142,7 @@ zero-agrees (x ∷ xs) =
     ((λ e. let q = k .0 e in cc), (λ e. k .1 ((cc), (cc))))
 
 -- a search among the numbers 1 to n finds nothing exactly if every number fails
-pub none-found : (p : ℕ → Bool) (a n : ℕ) → eqb (firstWhere p (countFrom (suc a) n)) 0 ≡ all (λ i. not (p i)) (countFrom (suc a) n)
+none-found : (p : ℕ → Bool) (a n : ℕ) → eqb (firstWhere p (countFrom (suc a) n)) 0 ≡ all (λ i. not (p i)) (countFrom (suc a) n)
 none-found p a zero = refl
 none-found p a (suc n) = go (p (suc a)) (none-found p (suc a) n)
   where

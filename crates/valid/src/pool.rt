@@ -3,15 +3,15 @@ use super::range::within;
 use model::number::MaybePool;
 use model::number::PoolNumber;
 use model::sizes::BLOCKS;
-use model::sizes::POOL_BYTES;
 use model::sizes::POOLS;
+use search::room::pools_exceed;
 use state::none::flags_zero;
 ghost use mathlib.Core.Path.{_≡_};
-ghost use Prim.Native.Nat.{suc, _*_};
+ghost use Prim.Native.Nat.{suc};
 ghost use lib.ListN.{length};
 ghost use lib.Dec.{leb};
 ghost use Rattle.model.specs.Sizes.{pools, blocks, poolBytes};
-ghost use Rattle.model.specs.Lists.{_!_, all, countFrom, upTo};
+ghost use Rattle.model.specs.Lists.{all, countFrom, upTo};
 ghost use Rattle.model.specs.Refusal.{poolSum};
 ghost use Rattle.model.specs.Valid.{blockFlag, PoolLists};
 ghost use Rattle.model.specs.Words.{wordCount, kernel};
@@ -65,33 +65,10 @@ pub(crate) fn flags(state: &[u32]) -> bool
     flags_zero(state) & flags_of_pools(state)
 }
 
-// A pool's bytes; any two words have a product.
-fn bytes(state: &[u32], p: PoolNumber) -> usize
-    requires { ⌜ length (now state) ≡ wordCount ⌝ }
-    ensures { λ r. ⌜ r ≡ kernel (now (state .entry)) .pools .count ! (p .0) * kernel (now (state .entry)) .pools .size ! (p .0) ⌝ }
-{
-    let count = state::pool::count(state, p);
-    let size = state::pool::size(state, p);
-    count as usize * size as usize
-}
-
-// "numbers in range": the live pools' bytes are no more than all pools may have. What is left of those is counted down, since the sum
-// of any four products need not be a machine number.
+// "numbers in range": the live pools' bytes are no more than all pools may have.
 pub(crate) fn pools_fit(state: &[u32]) -> bool
     requires { ⌜ length (now state) ≡ wordCount ⌝ }
     ensures { λ r. ⌜ r ≡ leb (poolSum (kernel (now (state .entry)))) poolBytes ⌝ }
 {
-    let mut room = POOL_BYTES as usize;
-    for n in 1..=POOLS {
-        let found = PoolNumber::from_word(n);
-        let MaybePool::Pool(p) = found else {
-            return false;
-        };
-        let taken = bytes(state, p);
-        if room < taken {
-            return false;
-        }
-        room -= taken;
-    }
-    true
+    !pools_exceed(state, 0)
 }

@@ -1,14 +1,14 @@
 // 01, "Sound": who may not wait at a pool or a buffer, since what it waits for is there. None's entries are seen to be 0 before these
 // are called.
 use super::entry;
-use message::room::fits;
 use model::number::BufferNumber;
 use model::number::MaybePool;
 use model::number::MaybeTask;
 use model::number::PoolNumber;
 use model::number::TaskNumber;
 use model::sizes::TASKS;
-use queue::front::front;
+use search::block::free_block;
+use search::sender::first_fitting;
 use state::task::GETTING;
 use state::task::RECEIVING;
 use state::task::SENDING;
@@ -22,22 +22,7 @@ ghost use Rattle.model.specs.Valid.{BufferLists, PoolLists, gettingTask, receiv
 ghost use Rattle.model.specs.Words.{wordCount, kernel};
 ghost use Rattle.valid.specs.Parts.{noSender};
 
-// Whether a pool has no free block. A state may say any count; the flags end, and beyond them a block reads as free.
-fn all_taken(state: &[u32], p: PoolNumber) -> bool
-    requires { ⌜ length (now state) ≡ wordCount ⌝ }
-    ensures { λ r. ⌜ r ≡ eqb (freeBlock (kernel (now (state .entry))) (p .0)) 0 ⌝ }
-{
-    let count = state::pool::count(state, p);
-    for i in 0..count {
-        let flag = state::pool::taken(state, p, i + 1);
-        if flag == 0 {
-            return false;
-        }
-    }
-    true
-}
-
-// The same by a word; where no pool is named, no block is free.
+// Whether a pool has no free block, by a word; where no pool is named, no block is free.
 fn none_free(state: &[u32], n: u32) -> bool
     requires { ⌜ length (now state) ≡ wordCount ⌝ }
     requires { ⌜ PoolLists (kernel (now state) .pools) ⌝ }
@@ -47,7 +32,7 @@ fn none_free(state: &[u32], n: u32) -> bool
     let MaybePool::Pool(p) = found else {
         return true;
     };
-    all_taken(state, p)
+    free_block(state, p) == 0
 }
 
 // "no waiters at [..] a pool with free blocks".
@@ -104,12 +89,8 @@ pub(crate) fn first_sender(state: &[u32], b: BufferNumber) -> bool
     requires { ⌜ length (now state) ≡ wordCount ⌝ }
     ensures { λ r. ⌜ r ≡ firstSender (kernel (now (state .entry))) (b .0) ⌝ }
 {
-    let found = front(state, SENDING, b.word());
-    let MaybeTask::Task(t) = found else {
-        return true;
-    };
-    let used = state::buffer::used(state, b);
-    let bufsz = state::buffer::bufsz(state, b);
-    let length = state::task::argument(state, t);
-    !fits(used, bufsz, length)
+    match first_fitting(state, b) {
+        MaybeTask::Task(_) => false,
+        MaybeTask::Nothing => true,
+    }
 }

@@ -1,32 +1,12 @@
--- `pools_fit` meets its contract. The loop's invariant: the pools still to be counted and the bytes that are left decide. Assumes nothing.
-use Prim.Native.Nat.{ℕ, suc, _*_, _-_}
-use mathlib.Core.List.{List}
-use lib.Dec.{leb}
+-- `pools_fit` meets its contract: no more than a bound is not above it. Assumes nothing.
 use borrow.Author.Needs.{needs}
-use Rattle.model.specs.Sizes.{pools, poolBytes}
-use Rattle.model.specs.Lists.{_!_}
-use Rattle.model.specs.Refusal.{poolSum}
-use Rattle.model.proofs.NumberLaws.{poolKind}
-use Rattle.model.specs.Words.{kernel}
-use Rattle.valid.proofs.Sums.{Adding, add-all, add-over, add-more, add-never, add-done}
+use native.Mathlib.Nat.{add-zero}
+use Rattle.search.proofs.Sums.{not-above}
 use Rattle.valid.proofs.pool.pools_fit.Statement.{statement}
 use Rattle.valid.proofs.pool.pools_fit.Tie as tie
 
-abbrev size : List ℕ → ℕ → ℕ
-size w p = kernel w .pools .count ! p * kernel w .pools .size ! p
-
-abbrev Inv-loop : tie.InvT-loop
-Inv-loop state room₀ n₀ room n = Adding poolKind (size state) n room (leb (poolSum (kernel state)) poolBytes)
-
-abbrev μ-loop : tie.MeasureT-loop
-μ-loop state room₀ n₀ room n = suc pools - n
-
-loop-holds : tie.Need-loop-holds Inv-loop μ-loop
-unfolding poolSum
-loop-holds c = add-all poolKind _ poolBytes
+returns : tie.Need-returns
+returns c = rw (c .pools-exceed .ensures, add-zero, not-above)
 
 pub pools-fit-spec : {M : Type 1} → statement M
-pools-fit-spec =
-    tie.close
-    (tie.spec Inv-loop μ-loop (λ c. search needs) loop-holds (λ c κs. search needs) (λ c. search needs) (λ c. search needs) (λ c. search add-never)
-    (λ c κs. search needs) (λ c. search add-over) (λ c. search needs) (λ c. search needs) (λ c. search add-more) (λ c. search add-done))
+pools-fit-spec = tie.close (tie.spec (λ c κs. search needs) returns)

@@ -1,8 +1,8 @@
 -- `bytes` meets its contract: the product of two words is a machine number. Assumes nothing.
 use borrow.Author.Needs.{needs}
-use Rattle.valid.proofs.Sums.{product-fits}
-use Rattle.valid.proofs.pool.bytes.Statement.{statement}
-use Rattle.valid.proofs.pool.bytes.Tie as tie
+use Rattle.search.proofs.Sums.{product-fits}
+use Rattle.search.proofs.room.bytes.Statement.{statement}
+use Rattle.search.proofs.room.bytes.Tie as tie
 
 pub bytes-spec : {M : Type 1} → statement M
 bytes-spec =

@@ -1,0 +1,4 @@
+pub mod Sinking
+pub mod Inserting
+pub mod Filling
+pub mod Tasks

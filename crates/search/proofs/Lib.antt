@@ -1,0 +1,5 @@
+pub mod Rest
+pub mod Searches
+pub mod Sums
+pub mod Blocks
+pub mod Senders
