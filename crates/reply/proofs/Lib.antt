@@ -1,0 +1,5 @@
+pub mod Refusing
+pub mod Replying
+pub mod Conditions
+pub mod Creations
+pub mod Deletions
