@@ -1,7 +1,7 @@
 -- The statements of `Statements`, proved: each name is its statement's.
-use Rattle.model.proofs.Terms.{ltb, le-ltb, lt-ltb, _≤_, FieldsFit, Queue, Ledger, join, ℕ, subst, append-nil, decLe, arith, _≡_, _∙_, refl, sym, ap, List, [], _∷_, _++_, foldl, foldl-append, append-assoc, cond, none, some, leb, length, lt-leb, scriptBytes, locking, fresh, freshLent, standing}
+use Rattle.model.proofs.Terms.{ltb, le-ltb, lt-ltb, _≤_, FieldsFit, Queue, Ledger, join, ℕ, zero, suc, subst, append-nil, decLe, arith, _≡_, _∙_, refl, sym, ap, List, [], _∷_, _++_, foldl, foldl-append, append-assoc, cond, none, some, leb, length, lt-leb, scriptBytes, locking, fresh, freshLent, tooLongBytes, run, runScript, withLog, scriptOver, standing}
 use Rattle.model.proofs.ListLaws.{either}
-use Rattle.model.proofs.ByCase.{script-runs, script-too-long}
+use Rattle.model.proofs.ByCase.{script-runs, script-too-long, record-too-long}
 use Rattle.state.proofs.WordLaws.{represents}
 use Rattle.state.proofs.LentLaws.{lent-step}
 use Rattle.preservation.specs.Entries.{Entry, AllFit, after, entriesOf}
@@ -11,12 +11,14 @@ use Rattle.preservation.proofs.Validity.{valid-steady}
 use Rattle.preservation.proofs.Records.{run-is, entries-part}
 use Rattle.ledger.proofs.Lines.{joined-anew}
 use Rattle.history.specs.History.{WithLedger, advance, start, history}
-use Rattle.history.specs.LentHistory.{InvocationFits, AllInvocationsFit, Invocation, startLent, historyLent, withLedgerIn, callIn, callsIn}
+use Rattle.history.specs.LentHistory.{InvocationFits, AllInvocationsFit, Invocation, startLent, lentIn, historyLent, withLedgerIn, callIn, callsIn}
+use Rattle.history.specs.RecordByRecord.{recordsFrom}
 use Rattle.history.specs.Reasons.{waitOf}
-use Rattle.history.specs.Statements.{RunsAreHistory, ScriptsAreHistory, OneCallAtMost, RunsPassThrough, Explained, ListsAgree, ListsAreExplained, EveryNumberExplained, MutexesKeepShape, ReadyIsNoWait, JoiningAnewIsNoChange, RunsAgree, RunsAreExplained, entriesRun, ScriptsAgree, ScriptsAreExplained, LentListsAgree, LentListsAreExplained, LentIsHistory, LentStepIsStep}
+use Rattle.history.specs.Statements.{RunsAreHistory, ScriptsAreHistory, OneCallAtMost, RunsPassThrough, Explained, ListsAgree, ListsAreExplained, EveryNumberExplained, MutexesKeepShape, ReadyIsNoWait, JoiningAnewIsNoChange, RunsAgree, RunsAreExplained, entriesRun, ScriptsAgree, ScriptsAreExplained, LentListsAgree, LentListsAreExplained, LentIsHistory, LentStepIsStep, SameRun, RecordByRecordIsScript}
 use Rattle.history.proofs.Lasting.{entries-last, call-lasts}
 use Rattle.history.proofs.Reasons.{reason}
 use Rattle.history.proofs.Lent.{calls-append, calls-fit, few-calls, lent-along}
+use Rattle.history.proofs.RecordByRecord.{over-here, follows}
 use Rattle.history.proofs.Along.{advances, history-along, agrees, of-state, every-part}
 
 pub ready-is-no-wait : ReadyIsNoWait
@@ -131,3 +133,13 @@ lent-lists-are-explained is fit before behind i list t _ _ =
 
 pub lent-step-is-step : LentStepIsStep
 lent-step-is-step a c bytes = lent-step a c bytes
+
+pub record-by-record-is-script : RecordByRecordIsScript
+unfolding run scriptOver withLog
+record-by-record-is-script a script n long log enough = go (decLe (length script) scriptBytes) n enough
+  where
+    go : Dec (length script ≤ scriptBytes) → (m : ℕ) → length script ≤ m → SameRun (recordsFrom m a script 0) (runScript (lentIn a) script)
+    go (yes h) m less = rw (script-runs (lentIn a) script h) (follows script h m (length script) a 0 less (omega arith) long log)
+    go (no h) zero less = absurd (omega arith)
+    go (no h) (suc m) less =
+        rw (record-too-long a script 0 log (omega arith), script-too-long (lentIn a) script (omega arith)) (over-here a long tooLongBytes (omega arith))

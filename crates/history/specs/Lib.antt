@@ -1,4 +1,5 @@
 pub mod History
 pub mod LentHistory
+pub mod RecordByRecord
 pub mod Reasons
 pub mod Statements

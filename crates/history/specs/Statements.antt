@@ -1,10 +1,11 @@
 -- Demand 3: what is to be proved, each as a type; `Theorems` proves them.
-use Rattle.model.proofs.Terms.{ℕ, _≤_, _<_, _≡_, _≢_, none, some, cond, List, [], _∷_, _++_, length, getD, ltb, logBytes, scriptBytes, tasks, _!_, Queue, ready, locking, queueOrder, running, From, Valid, wordCount, freshLent, step, runFrom, run, runScript, Areas, returned, lentStep, MutexEntry, Ledger, join, standing, ledgerPriorities, ledgerOrder, ledgerRuns}
+use Rattle.model.proofs.Terms.{ℕ, _≤_, _<_, _≡_, _≢_, none, some, cond, List, [], _∷_, _++_, length, getD, ltb, logBytes, scriptBytes, tasks, _!_, Queue, ready, locking, queueOrder, running, From, Valid, wordCount, words, freshLent, step, Ran, runFrom, run, runScript, Areas, returned, lentStep, MutexEntry, Ledger, join, standing, ledgerPriorities, ledgerOrder, ledgerRuns}
 use Rattle.model.specs.declared.call.Call.{Call}
 use Rattle.preservation.specs.Entries.{Entry, AllFit, entriesOf}
 use Rattle.preservation.specs.Statements.{ValidAreas}
 use Rattle.history.specs.History.{WithLedger, history}
 use Rattle.history.specs.LentHistory.{Invocation, AreasWithLedger, lentIn, withLedgerIn, historyLent, AllInvocationsFit, callIn, callsIn}
+use Rattle.history.specs.RecordByRecord.{RanLent, recordsFrom}
 use Rattle.history.specs.Reasons.{Has, waitOf, Reason}
 
 -- "every started task's current priority, every waiting line's order and the running task equal what you get by throwing those away and working them out afresh
@@ -106,3 +107,19 @@ LentIsHistory = (is : List Invocation) → AllInvocationsFit is → withLedgerIn
 abbrev pub LentStepIsStep : Type 0
 LentStepIsStep =
     (a : Areas) (c : Call) (bytes : List ℕ) → length (a .words) ≡ wordCount → length (a .log) ≡ logBytes → lentStep a c bytes ≡ returned a (step (lentIn a) c bytes)
+
+-- ---- a script run record by record on lent areas: no whole log need be held
+
+-- all that was written is the run's log, and the areas hold what the run leaves
+pub record SameRun (r : RanLent) (s : Ran) : Type 0 where
+  pub log : r .log ≡ s .log
+  pub store : r .areas .store ≡ s .lent .store
+  pub outbox : r .areas .outbox ≡ s .lent .outbox
+  pub words : r .areas .words ≡ words (s .lent .kernel)
+
+-- From any words of a state and any other areas, valid or not: -5 for each record where they are not, 8D alone for a script that is too long, nothing for
+-- an empty one. As many turns as the script has bytes are enough, and more write nothing more.
+abbrev pub RecordByRecordIsScript : Type 0
+RecordByRecordIsScript =
+    (a : Areas) (script : List ℕ) (n : ℕ) → length (a .words) ≡ wordCount → length (a .log) ≡ logBytes → length script ≤ n
+    → SameRun (recordsFrom n a script 0) (runScript (lentIn a) script)
