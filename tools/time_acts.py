@@ -9,7 +9,7 @@ leave the words, the areas and the log that the second program leaves after a ca
 import sys
 
 sys.dont_write_bytecode = True
-from timing import run
+from timing import LENT_STATES, run
 
 CRATE = """// The acts that calls are made of, for another language to call.
 use model::number::BufferNumber;
@@ -21,7 +21,8 @@ use model::number::TaskNumber;
 ghost use mathlib.Core.Path.{_≡_};
 ghost use lib.ListN.{length};
 ghost use Rattle.model.specs.Sizes.{tasks};
-ghost use Rattle.model.specs.Words.{wordCount};
+ghost use Rattle.model.specs.Valid.{Arrivals, Priorities};
+ghost use Rattle.model.specs.Words.{wordCount, kernel};
 ghost use Rattle.order.specs.Order.{Tasks};
 
 #[no_mangle]
@@ -40,6 +41,18 @@ pub extern "C" fn timing_release(state: &mut [u32], outbox: &mut [u8], log: &mut
 {
     match MutexNumber::from_word(m) {
         MaybeMutex::Mutex(n) => act::mutex::release(state, outbox, log, at, n),
+        MaybeMutex::Nothing => 0,
+    }
+}
+
+#[no_mangle]
+pub extern "C" fn timing_release_settled(state: &mut [u32], outbox: &mut [u8], log: &mut [u8], at: usize, m: u32) -> usize
+    requires { ⌜ length (now state) ≡ wordCount ⌝ }
+    requires { ⌜ Priorities (kernel (now state)) ⌝ }
+    requires { ⌜ Arrivals (kernel (now state)) ⌝ }
+{
+    match MutexNumber::from_word(m) {
+        MaybeMutex::Mutex(n) => act::mutex::release_settled(state, outbox, log, at, n),
         MaybeMutex::Nothing => 0,
     }
 }
@@ -100,15 +113,10 @@ pub extern "C" fn timing_drain(state: &mut [u32], store: &mut [u8], outbox: &mut
 
 PROGRAM = r"""
 use reference::generator::{generate, RECORDS};
-use reference::limits::*;
-use reference::random::Random;
 use reference::record::{self, Call};
 use reference::tally::Tally;
-use reference::words::*;
-use reference::{states, Answer, Kernel, Outcome};
-use std::hint::black_box;
+use reference::{Answer, Outcome};
 
-const SAMPLED: usize = 10_000;
 const CHOSEN: usize = 50;
 const SCRIPTS: u64 = 60;
 /// A queue of several tasks has at least so many.
@@ -120,22 +128,17 @@ const ENDED: u8 = 0x83;
 type Log = [u8; LOG];
 type Act = fn(&mut Lent, &mut Log, &Case) -> usize;
 
-#[derive(Clone, Copy, PartialEq)]
-struct Lent { words: [u32; WORDS], store: [u8; STORE], outbox: [u8; OUTBOX] }
-
 /// A state and the number that the act is about; what it must leave, and the bytes that it must log.
 struct Case { lent: Lent, queue: u32, number: u32, after: Lent, ended: Vec<u8> }
 
 /// An act, the cases on which it is timed, and what shows that it did something.
 struct Timed { name: &'static str, act: Act, cases: Vec<Case>, did: fn(&Case, &Lent) -> bool }
 
-#[repr(C)]
-struct Time { seconds: i64, nanoseconds: i64 }
-
 // A slice is passed as a pointer and a length.
 extern "C" {
     fn timing_end_wait(w: *mut u32, wl: usize, o: *mut u8, ol: usize, l: *mut u8, ll: usize, at: usize, t: u32, code: i32) -> usize;
     fn timing_release(w: *mut u32, wl: usize, o: *mut u8, ol: usize, l: *mut u8, ll: usize, at: usize, m: u32) -> usize;
+    fn timing_release_settled(w: *mut u32, wl: usize, o: *mut u8, ol: usize, l: *mut u8, ll: usize, at: usize, m: u32) -> usize;
     fn timing_become_dormant(w: *mut u32, wl: usize, o: *mut u8, ol: usize, l: *mut u8, ll: usize, at: usize, t: u32) -> usize;
     fn timing_tick_task(w: *mut u32, wl: usize, o: *mut u8, ol: usize, l: *mut u8, ll: usize, at: usize, t: u32) -> usize;
     fn timing_queue_order(w: *const u32, wl: usize, place: u32, object: u32, order: *mut u32, length: usize) -> usize;
@@ -143,14 +146,6 @@ extern "C" {
         order: *const u32, length: usize, code: i32) -> usize;
     fn timing_take_oldest(w: *mut u32, wl: usize, s: *mut u8, sl: usize, b: u32);
     fn timing_drain(w: *mut u32, wl: usize, s: *mut u8, sl: usize, o: *mut u8, ol: usize, l: *mut u8, ll: usize, at: usize) -> usize;
-    fn clock_gettime(clock: i32, time: *mut Time) -> i32;
-}
-
-/// Nanoseconds of processor time of this thread.
-fn now() -> f64 {
-    let mut time = Time { seconds: 0, nanoseconds: 0 };
-    unsafe { clock_gettime(3, &mut time) };
-    time.seconds as f64 * 1e9 + time.nanoseconds as f64
 }
 
 // The acts.
@@ -163,6 +158,11 @@ fn end_wait(x: &mut Lent, log: &mut Log, c: &Case) -> usize {
 fn release(x: &mut Lent, log: &mut Log, c: &Case) -> usize {
     let (w, o) = (&mut x.words, &mut x.outbox);
     unsafe { timing_release(w.as_mut_ptr(), WORDS, o.as_mut_ptr(), OUTBOX, log.as_mut_ptr(), LOG, START, c.number) }
+}
+
+fn release_settled(x: &mut Lent, log: &mut Log, c: &Case) -> usize {
+    let (w, o) = (&mut x.words, &mut x.outbox);
+    unsafe { timing_release_settled(w.as_mut_ptr(), WORDS, o.as_mut_ptr(), OUTBOX, log.as_mut_ptr(), LOG, START, c.number) }
 }
 
 fn become_dormant(x: &mut Lent, log: &mut Log, c: &Case) -> usize {
@@ -192,41 +192,13 @@ fn tick(x: &mut Lent, log: &mut Log, _: &Case) -> usize {
 
 // The states.
 
-fn tasks() -> impl DoubleEndedIterator<Item = u32> {
-    1..=TASKS as u32
-}
-
 fn mutexes() -> impl Iterator<Item = u32> {
     1..=MUTEXES as u32
 }
 
 impl Lent {
-    fn of(words: &[u32], store: &[u8], outbox: &[u8]) -> Lent {
-        Lent { words: words.try_into().unwrap(), store: store.try_into().unwrap(), outbox: outbox.try_into().unwrap() }
-    }
-
-    fn of_kernel(kernel: &Kernel) -> Lent {
-        Lent::of(&kernel.to_words(), kernel.store(), kernel.outbox())
-    }
-
-    fn kernel(&self) -> Option<Kernel> {
-        Kernel::from_words(&self.words, &self.store, &self.outbox)
-    }
-
-    fn word(&self, list: usize, number: u32) -> u32 {
-        self.words[list + number as usize]
-    }
-
     fn caller(&self) -> Option<u32> {
         Some(u32::from(self.kernel()?.running()?.get()))
-    }
-
-    fn waits(&self, t: u32) -> bool {
-        self.word(at::PLACE, t) >= LOCKING
-    }
-
-    fn waiting(&self) -> usize {
-        tasks().filter(|&t| self.waits(t)).count()
     }
 
     fn queued(&self, place: u32, object: u32) -> usize {
@@ -263,9 +235,10 @@ impl Case {
         Case::of(lent, 0, t, Call::Tick, |n| n == 1)
     }
 
-    /// The running task gives up a mutex that somebody waits for, or nobody.
-    fn release(x: &Lent, waited: bool) -> Option<Case> {
-        let m = x.held(x.caller()?).find(|&m| (x.queued(LOCKING, m) > 0) == waited)?;
+    /// The running task gives up a mutex that somebody waits for, or nobody, of an attribute that is wanted.
+    fn release(x: &Lent, waited: bool, wanted: impl Fn(u32) -> bool) -> Option<Case> {
+        let fits = |&m: &u32| (x.queued(LOCKING, m) > 0) == waited && wanted(x.word(at::MUTEX_ATTRIBUTE, m));
+        let m = x.held(x.caller()?).find(fits)?;
         Case::of(*x, LOCKING, m, Call::UnlMtx { mutex: m as i32 }, |n| n == usize::from(waited))
     }
 
@@ -344,9 +317,7 @@ fn crowd(make: &[Call], wait: Call) -> Lent {
 }
 
 fn timed() -> Vec<Timed> {
-    let mut random = Random::new(2026);
-    let mut busy: Vec<Lent> = (0..SAMPLED).map(|_| states::busy(&mut random)).map(|s| Lent::of(&s.words, &s.store, &s.outbox)).collect();
-    busy.sort_by_key(|x| std::cmp::Reverse(x.waiting()));
+    let busy = busiest();
     let of = |name, act, did, case: &dyn Fn(&Lent) -> Option<Case>| {
         let cases: Vec<Case> = busy.iter().filter_map(case).take(CHOSEN).collect();
         assert_eq!(cases.len(), CHOSEN, "{name}: too few states");
@@ -357,6 +328,8 @@ fn timed() -> Vec<Timed> {
     let dormant = |c: &Case, x: &Lent| x.word(at::PLACE, c.number) == DORMANT && x.held(c.number).count() == 0;
     let same = |c: &Case, x: &Lent| c.lent == *x;
     let grew = |c: &Case, x: &Lent| x.word(at::USED, c.number) > c.lent.word(at::USED, c.number);
+    let free = |c: &Case, x: &Lent| x.word(at::HOLDER, c.number) == 0;
+    let ceiling = u32::from(MUTEX_CEILING);
     let lock = Call::LocMtx { mutex: 1, timeout: -1 };
     let get = Call::GetMpf { pool: 1, timeout: -1 };
     let inherits = [Call::CreMtx { attribute: i32::from(MUTEX_INHERIT), ceiling: 0 }, lock];
@@ -364,8 +337,11 @@ fn timed() -> Vec<Timed> {
     vec![
         of("end_wait, for a mutex", end_wait, ready, &|x| Case::end_wait(x, |place| place == LOCKING)),
         of("end_wait, another wait", end_wait, ready, &|x| Case::end_wait(x, |place| place > LOCKING)),
-        of("release, somebody waits", release, waiter_holds, &|x| Case::release(x, true)),
-        of("release, nobody waits", release, |c, x| x.word(at::HOLDER, c.number) == 0, &|x| Case::release(x, false)),
+        of("release, somebody waits", release, waiter_holds, &|x| Case::release(x, true, |_| true)),
+        of("release, nobody waits, no ceiling", release, free, &|x| Case::release(x, false, |a| a != ceiling)),
+        of("release_settled, somebody waits", release_settled, waiter_holds, &|x| Case::release(x, true, |_| true)),
+        of("release_settled, nobody waits, no ceiling", release_settled, free, &|x| Case::release(x, false, |a| a != ceiling)),
+        of("release_settled, nobody waits, a ceiling", release_settled, free, &|x| Case::release(x, false, |a| a == ceiling)),
         of("become_dormant, holds mutexes", become_dormant, dormant, &|x| Case::become_dormant(x, |n| n > 1)),
         of("become_dormant, holds none", become_dormant, dormant, &|x| Case::become_dormant(x, |n| n == 0)),
         of("drain, nobody sends", drain, same, &|x| Case::idle_drain(x, false)),
@@ -403,17 +379,6 @@ fn check(timed: &Timed) {
 }
 
 // The times.
-
-fn batch(calls: usize, mut call: impl FnMut(usize)) -> f64 {
-    let start = now();
-    (0..calls).for_each(&mut call);
-    (now() - start) / calls as f64
-}
-
-fn median(mut times: Vec<f64>) -> f64 {
-    times.sort_by(f64::total_cmp);
-    times[times.len() / 2]
-}
 
 /// What a copy takes, and what a call right after it takes beyond that.
 fn after_copy(timed: &Timed, calls: usize) -> [f64; 2] {
@@ -518,4 +483,4 @@ fn main() {
 """
 
 if __name__ == "__main__":
-    run(CRATE, "model order act transfer", PROGRAM, lambda folder: sys.argv[1:] or ["2000", "101", "3"])
+    run(CRATE, "model order act transfer", LENT_STATES + PROGRAM, lambda folder: sys.argv[1:] or ["2000", "101", "3"])

@@ -20,7 +20,7 @@ use Rattle.script.specs.Place.{Appends, Wrote}
 use Rattle.script.specs.Item.{endedWith}
 use Rattle.script.proofs.Appending.{wrote, wrote-more, ended-parts}
 use Rattle.act.specs.Held.{DoesInWords, DoesInLog}
-use Rattle.act.specs.Ends.{Leaves, unblocked, Unblocks}
+use Rattle.act.specs.Ends.{waitBegun, Leaves, unblocked, Unblocks}
 use Rattle.act.proofs.Doing.{does-words, does, ended-more}
 
 -- priorities are settled where the place is that of a wait for a mutex
@@ -31,21 +31,23 @@ module _ {place : ℕ} (k : Kernel) where
   settles-not : place ≢ locking → recomputeIf (eqb place locking) k ≡ k
   settles-not e = rw (ne-eqb place locking e) (recompute-not k)
 
-module _ (t place object argument left : ℕ) (timeout : ℤ) {s s1 s2 s3 : List ℕ} (a : Represents s1 (arrive (kernel s) t (queue place object)))
-    (b : Represents s2 (withArgument (kernel s1) t argument)) (m : left ≡ millis timeout) (c : Represents s3 (withLeft (kernel s2) t left)) where
-  waits : {s' : List ℕ} → Represents s' (recomputeIf (eqb place locking) (kernel s3))
-      → DoesInWords (λ w. wait w t (queue place object) argument timeout) s s'
-  unfolding wait withKernel
-  waits r =
-      let e : kernel s3 ≡ withLeft (withArgument (arrive (kernel s) t (queue place object)) t argument) t (millis timeout) = cc in
-      does-words _ (rw e at r) (λ store outbox log es. refl)
+module _ (t place object argument : ℕ) (timeout : ℤ) (s : List ℕ) where
+  pub begins : {s1 s2 s3 : List ℕ} {left : ℕ} → Represents s1 (arrive (kernel s) t (queue place object)) → Represents s2 (withArgument (kernel s1) t argument)
+      → left ≡ millis timeout → Represents s3 (withLeft (kernel s2) t left) → Represents s3 (waitBegun (kernel s) t (queue place object) argument timeout)
+  unfolding waitBegun
+  begins a b m c = record { length = c .length; kernel = cc }
 
-  pub waits-locking : {s' : List ℕ} → place ≡ locking → Represents s' (recompute (kernel s3))
-      → DoesInWords (λ w. wait w t (queue place object) argument timeout) s s'
-  waits-locking e r = waits (rw (settles (kernel s3) e) r)
+  module _ {s1 : List ℕ} (b : Represents s1 (waitBegun (kernel s) t (queue place object) argument timeout)) where
+    waits : {s' : List ℕ} → Represents s' (recomputeIf (eqb place locking) (kernel s1)) → DoesInWords (λ w. wait w t (queue place object) argument timeout) s s'
+    unfolding wait waitBegun withKernel
+    waits r = does-words _ (rw (b .kernel) at r) (λ store outbox log es. refl)
 
-  pub waits-other : place ≢ locking → DoesInWords (λ w. wait w t (queue place object) argument timeout) s s3
-  waits-other e = waits (record { length = c .length; kernel = sym (settles-not (kernel s3) e) })
+    pub waits-locking : {s' : List ℕ} → place ≡ locking → Represents s' (recompute (kernel s1))
+        → DoesInWords (λ w. wait w t (queue place object) argument timeout) s s'
+    waits-locking e r = waits (rw (settles (kernel s1) e) r)
+
+    pub waits-other : place ≢ locking → DoesInWords (λ w. wait w t (queue place object) argument timeout) s s1
+    waits-other e = waits (record { length = b .length; kernel = sym (settles-not (kernel s1) e) })
 
 module _ {t place : ℕ} {s s1 s2 s3 o : List ℕ} (p : place ≡ kernel s .tasks .place ! t) where
   pub leave-sender : Represents s1 (withObject (kernel s) t 0) → Represents s2 (withArgument (kernel s1) t 0)

@@ -3,14 +3,19 @@ use Prim.Native.Nat.{ℕ}
 use mathlib.Core.Path.{_≡_}
 use mathlib.Core.Bool.{cond}
 use mathlib.Core.List.{List}
+use lib.IntN.{ℤ}
 use lib.Dec.{eqb}
 use Rattle.model.specs.Lists.{_!_}
-use Rattle.model.specs.Facts.{readyQueue, dormant, locking}
-use Rattle.model.specs.Kernel.{Kernel, withPlace, withArrivals, withBase, departed}
+use Rattle.model.specs.Facts.{Queue, readyQueue, dormant, locking}
+use Rattle.model.specs.Kernel.{Kernel, withPlace, withArgument, withArrivals, withBase, withLeft, departed}
 use Rattle.model.specs.World.{World, recompute}
-use Rattle.model.specs.Act.{arrive, recomputeIf, leaveKernel, leaveOutbox, release}
+use Rattle.model.specs.Act.{arrive, recomputeIf, millis, leaveKernel, leaveOutbox, release}
 use Rattle.model.specs.Words.{kernel}
 use Rattle.state.specs.Words.{Represents}
+
+-- `wait` before priorities are settled
+unfoldable pub waitBegun : Kernel → ℕ → Queue → ℕ → ℤ → Kernel
+waitBegun k t q argument timeout = withLeft (withArgument (arrive k t q) t argument) t (millis timeout)
 
 -- `leave`, by its two parts
 pub record Leaves (t : ℕ) (s o s' o' : List ℕ) : Type 0 where

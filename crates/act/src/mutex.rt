@@ -1,5 +1,6 @@
 // Mutexes are given up.
 use super::wait::end_wait;
+use model::attribute::CEILINGED;
 use model::code::E_OK;
 use model::number::MaybeMutex;
 use model::number::MaybeTask;
@@ -8,15 +9,16 @@ use model::number::TaskNumber;
 use model::sizes::MUTEXES;
 use priority::recompute;
 use queue::front::front;
+use state::mutex::attribute;
 use state::mutex::holder;
 use state::mutex::set_holder;
 use state::task::LOCKING;
 ghost use mathlib.Core.Path.{_≡_};
 ghost use lib.ListN.{length};
 ghost use Rattle.model.specs.Sizes.{mutexes};
-ghost use Rattle.model.specs.Valid.{From};
+ghost use Rattle.model.specs.Valid.{From, Arrivals, Priorities};
 ghost use Rattle.model.specs.Act.{release as released, releaseAll};
-ghost use Rattle.model.specs.Words.{wordCount};
+ghost use Rattle.model.specs.Words.{wordCount, kernel};
 ghost use Rattle.act.specs.Held.{DoesInLog};
 ghost use Rattle.act.specs.Ends.{releaseHeld};
 
@@ -35,6 +37,32 @@ pub fn release(
     let MaybeTask::Task(t) = first else {
         set_holder(state, m, 0);
         recompute(state);
+        return at;
+    };
+    set_holder(state, m, t.word());
+    end_wait(state, outbox, log, at, t, E_OK)
+}
+
+// The same where priorities are settled: a mutex without a ceiling that nobody waits for becomes free, and no priority changes.
+pub fn release_settled(
+    state: &mut [u32],
+    outbox: &mut [u8],
+    log: &mut [u8],
+    at: usize,
+    m: MutexNumber,
+) -> usize
+    requires { ⌜ length (now state) ≡ wordCount ⌝ }
+    requires { ⌜ Priorities (kernel (now state)) ⌝ }
+    requires { ⌜ Arrivals (kernel (now state)) ⌝ }
+    ensures { λ r. ⌜ DoesInLog (λ w. released w (m .0)) (now (state .entry)) (now (outbox .entry)) (now (log .entry)) at (now (state .exit)) (now (outbox .exit)) (now (log .exit)) r ⌝ }
+{
+    let first = front(state, LOCKING, m.word());
+    let MaybeTask::Task(t) = first else {
+        let a = attribute(state, m);
+        set_holder(state, m, 0);
+        if a == CEILINGED {
+            recompute(state);
+        }
         return at;
     };
     set_holder(state, m, t.word());

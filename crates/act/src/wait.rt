@@ -16,9 +16,10 @@ ghost use lib.ListN.{length};
 ghost use Rattle.model.specs.Facts.{queue};
 ghost use Rattle.model.specs.World.{Nothing, Message, Block};
 ghost use Rattle.model.specs.Act.{millis as milliseconds, wait as waiting, endWait};
-ghost use Rattle.model.specs.Words.{wordCount};
+ghost use Rattle.model.specs.Words.{wordCount, kernel};
+ghost use Rattle.state.specs.Words.{Represents};
 ghost use Rattle.act.specs.Held.{DoesInWords, DoesInLog};
-ghost use Rattle.act.specs.Ends.{Leaves, Unblocks};
+ghost use Rattle.act.specs.Ends.{waitBegun, Leaves, Unblocks};
 
 // The milliseconds of a timeout: -1 and below stand for no end.
 fn millis(timeout: i32) -> u32
@@ -31,14 +32,29 @@ fn millis(timeout: i32) -> u32
     }
 }
 
-// A task begins to wait in the queue of an object, with the argument of the wait.
-pub fn wait(state: &mut [u32], t: TaskNumber, place: u32, object: u32, argument: u32, timeout: i32)
+// A task begins to wait in the queue of an object, with the argument of the wait; current priorities stay as they are.
+pub fn begin_wait(
+    state: &mut [u32],
+    t: TaskNumber,
+    place: u32,
+    object: u32,
+    argument: u32,
+    timeout: i32,
+)
     requires { ⌜ length (now state) ≡ wordCount ⌝ }
-    ensures { λ _. ⌜ DoesInWords (λ w. waiting w (t .0) (queue place object) argument timeout) (now (state .entry)) (now (state .exit)) ⌝ }
+    ensures { λ _. ⌜ Represents (now (state .exit)) (waitBegun (kernel (now (state .entry))) (t .0) (queue place object) argument timeout) ⌝ }
 {
     arrive(state, t, place, object);
     state::task::set_argument(state, t, argument);
     state::task::set_left(state, t, millis(timeout));
+}
+
+// The same, and priorities are settled if the wait is for a mutex.
+pub fn wait(state: &mut [u32], t: TaskNumber, place: u32, object: u32, argument: u32, timeout: i32)
+    requires { ⌜ length (now state) ≡ wordCount ⌝ }
+    ensures { λ _. ⌜ DoesInWords (λ w. waiting w (t .0) (queue place object) argument timeout) (now (state .entry)) (now (state .exit)) ⌝ }
+{
+    begin_wait(state, t, place, object, argument, timeout);
     if place == LOCKING {
         recompute(state);
     }

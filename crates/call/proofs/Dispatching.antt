@@ -30,7 +30,7 @@ use Rattle.model.specs.Message.{packed, oldestLength}
 use Rattle.model.specs.Record.{kindOf}
 use Rattle.model.specs.Refusal.{Refusal, firstRefusal, nobodyRuns, badNumber, rcvMbfRefusals, refusals}
 use Rattle.model.specs.Effect.{Done, perform}
-use Rattle.model.specs.Valid.{From, Layout, BufferRange}
+use Rattle.model.specs.Valid.{From, Layout, BufferRange, Valid}
 use Rattle.model.specs.Words.{kernel}
 use Rattle.model.specs.Lent.{Areas, lent}
 use Rattle.model.proofs.call.Call.{the-type}
@@ -175,7 +175,12 @@ module _ (k : Kernel) (c : Call) (bytes : List ℕ) {caller : MaybeTask} (runs :
       go (inr m) =
           absurd (true≢false (sym nobody-runs ∙ none-applies (nobodyRuns k ∷ rest (refusals k c bytes)) (sym (ap firstRefusal (m .first)) ∙ n) 0))
 
--- ---- what a receive asks of the store
+-- ---- what calls ask of a valid state
+
+pub made-valid : {a : Areas} {c : Call} {bytes : List ℕ} → Allowed a c bytes → Valid (lent (a .words) (a .store) (a .outbox))
+made-valid {a} h = valid-agrees (lent (a .words) (a .store) (a .outbox)) .0 (h .sound)
+
+-- a receive asks of the store:
 
 zero-there : (n i : ℕ) → zeros n ! i ≡ 0
 zero-there zero i = refl
@@ -209,6 +214,6 @@ unfolding refusals rcvMbfRefusals badNumber
 made-answerable {a} {x = x} {y} is h =
     let k : Kernel = kernel (a .words) in
     let b : ℕ = number x in
-    let v = valid-agrees (lent (a .words) (a .store) (a .outbox)) .0 (h .sound) in
+    let v = made-valid h in
     let (low, high) = in-range buffers x (none-applies (rcvMbfRefusals k x y) (made-allowed is h) 1) in
     record { short = oldest-short (short-enough k b (v .isBufferRange b low high)) (v .isLayout b low high) }

@@ -52,7 +52,7 @@ ghost use Rattle.act.specs.Held.{areas};
 ghost use Rattle.reply.specs.Replies.{verdict, Carries};
 ghost use Rattle.call.specs.Steps.{Allowed, isTick};
 
-// The refusals of a call that a task makes. A function for each call, so it is as long as the table.
+// The refusals of a call where a task runs. A function for each call, so it is as long as the table.
 fn refuse_made(state: &[u32], caller: TaskNumber, call: Call, message: &[u8]) -> Verdict
     requires { ⌜ length (now state) ≡ wordCount ⌝ }
     requires { ⌜ caller .0 ≡ running (kernel (now state)) ⌝ }
@@ -119,7 +119,7 @@ pub(crate) fn refuse(state: &[u32], caller: MaybeTask, call: Call, message: &[u8
     refuse_made(state, t, call, message)
 }
 
-// The effect of a call that a task makes. It is as long as the table of calls.
+// The effect of a call where a task runs. It is as long as the table of calls.
 fn perform_made(
     state: &mut [u32],
     store: &mut [u8],

@@ -13,9 +13,8 @@ use script::log::log_runs;
 use step::valid_step;
 use valid::is_valid;
 ghost use mathlib.Core.Path.{_≡_};
-ghost use Rattle.model.specs.Lent.{lentStep};
 ghost use Rattle.act.specs.Held.{areas};
-ghost use Rattle.call.specs.Calls.{called, NotValid};
+ghost use Rattle.call.specs.Calls.{Answers, NotValid};
 
 // What a call leaves beside the areas: its answer, and how many bytes of log it has written.
 pub struct Called {
@@ -23,7 +22,7 @@ pub struct Called {
     pub written: usize,
 }
 
-// Order 1: "state not sound": the areas stay as they came, but for the log.
+// Order 1: "state not sound, or an area not exactly 1,024 or 512 bytes": the areas stay as they came, but for the log.
 fn not_valid(log: &mut [u8]) -> Called
     ensures { λ r. ⌜ NotValid (now (log .entry)) (now (log .exit)) r ⌝ }
 {
@@ -44,7 +43,7 @@ pub fn call(
     call: Call,
     message: &[u8],
 ) -> Called
-    ensures { λ r. ⌜ called r (areas (now (state .exit)) (now (store .exit)) (now (outbox .exit)) (now (log .exit))) ≡ lentStep (areas (now (state .entry)) (now (store .entry)) (now (outbox .entry)) (now (log .entry))) call (now (message .entry)) ⌝ }
+    ensures { λ r. ⌜ Answers (areas (now (state .entry)) (now (store .entry)) (now (outbox .entry)) (now (log .entry))) call (now (message .entry)) (areas (now (state .exit)) (now (store .exit)) (now (outbox .exit)) (now (log .exit))) r ⌝ }
 {
     if log.len() != LOG_BYTES {
         return Called {

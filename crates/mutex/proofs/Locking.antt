@@ -1,5 +1,5 @@
 -- loc_mtx, in the order of the code's steps. Assumes nothing.
-use Rattle.model.proofs.Terms.{ℕ, _≡_, _∙_, refl, sym, _≢_, Bool, true, false, _&&_, not, none, List, [], _∷_, length, ℤ, eqb, ltb, eq-eqb, ne-eqb, _!_, mutexes, E-OK, E-PAR, E-ID, E-NOEXS, E-ILUSE, E-TMOUT, number, queue, locking, ceilinged, Kernel, withHolder, Nothing, withKernel, running, recompute, settled, wait, Refusal, refuse, firstRefusal, badTimeout, badNumber, noSuch, noTime, lockWaits, locMtxRefusals, locMtx, kernel, wordCount, answerBytes}
+use Rattle.model.proofs.Terms.{ℕ, _≤_, arith, _≡_, _∙_, refl, sym, ap, _≢_, Bool, true, false, _&&_, not, none, List, [], _∷_, length, ℤ, eqb, ltb, eq-eqb, ne-eqb, _!_, tasks, mutexes, E-OK, E-PAR, E-ID, E-NOEXS, E-ILUSE, E-TMOUT, number, queue, locking, inherits, ceilinged, Kernel, withHolder, Nothing, withKernel, running, recompute, settled, millis, wait, Refusal, refuse, firstRefusal, badTimeout, badNumber, noSuch, noTime, lockWaits, locMtxRefusals, locMtx, kernel, wordCount, answerBytes, Each, Priorities, Locking}
 use Rattle.model.specs.Number.{fieldNumber, maybeMutex}
 use Rattle.model.specs.declared.number.MutexNumber.{MutexNumber}
 use Rattle.model.specs.declared.number.MaybeMutex.{MaybeMutex}
@@ -9,7 +9,11 @@ use Rattle.model.proofs.NumberLaws.{mutexKind}
 use Rattle.model.proofs.ByCase.{lock-waits, lock-free}
 use Rattle.state.specs.Words.{Represents}
 use Rattle.script.specs.Place.{Appends}
+use Rattle.queue.proofs.Members.{running-stood}
+use Rattle.priority.proofs.SettledLaws.{holder-settled, wait-settled}
 use Rattle.act.specs.Held.{DoesInWords}
+use Rattle.act.specs.Ends.{waitBegun}
+use Rattle.act.proofs.Ending.{waits-locking}
 use Rattle.reply.specs.declared.Verdict.{Verdict}
 use Rattle.reply.specs.declared.Verdict.the-variants.{Allowed, Refused}
 use Rattle.reply.specs.Replies.{verdict, CarriesInWords}
@@ -106,7 +110,34 @@ module _ (k : Kernel) (mutex timeout : ℤ) {u : ℤ} (u-is : u ≡ timeout) {sh
             pub lock-allowed : r ≡ false → Allowed ≡ verdict (firstRefusal (locMtxRefusals k mutex timeout))
             lock-allowed e = lately (time-later timeout (lockWaits k (number mutex)) u-is waits-is r-is [] e refl)
 
--- and what it does
+-- and what it does: a free mutex is taken, with a ceiling or without,
+module _ (s : List ℕ) (m : ℕ) {s1 : List ℕ} {t u : ℕ} (u-is : u ≡ t) (taken : Represents s1 (withHolder (kernel s) m u)) where
+  pub takes : {s' : List ℕ} → Represents s' (recompute (kernel s1)) → Represents s' (recompute (withHolder (kernel s) m t))
+  takes r = record { length = r .length; kernel = cc }
+
+  pub takes-quiet : length s ≡ wordCount → Priorities (kernel s) → Each tasks (Locking (kernel s)) → kernel s .mutexes .holder ! m ≡ 0
+      → {a : ℕ} → a ≡ kernel s .mutexes .attribute ! m → a ≢ ceilinged → Represents s1 (recompute (withHolder (kernel s) m t))
+  unfolding Locking
+  takes-quiet h settled waits free a-is d =
+      takes (holder-settled s h settled m u a-is d (λ x low high p o. waits x low high p .1 (ap (λ (n : ℕ). kernel s .mutexes .holder ! n) o ∙ free)) taken)
+
+-- or the caller waits, for one that inherits or not
+module _ (s : List ℕ) (m t : ℕ) (timeout : ℤ) {n : ℕ} (n-is : n ≡ m) {s1 : List ℕ} (begun : Represents s1 (waitBegun (kernel s) t (queue locking n) 0 timeout)) where
+  pub awaits : {s' : List ℕ} → Represents s' (recompute (kernel s1)) → DoesInWords (λ w. wait w t (queue locking m) 0 timeout) s s'
+  awaits r = waits-locking t locking m 0 timeout s (rw n-is at begun) refl r
+
+  pub awaits-quiet : length s ≡ wordCount → t ≡ running (kernel s) → Priorities (kernel s) → {a : ℕ} → a ≡ kernel s .mutexes .attribute ! m → a ≢ inherits
+      → DoesInWords (λ w. wait w t (queue locking m) 0 timeout) s s1
+  unfolding waitBegun
+  awaits-quiet h runs settled a-is d = awaits (wait-settled s h settled m t a-is d stands 0 (millis timeout) (rw n-is at begun))
+    where
+      stands : t ≢ 0 → (t ≤ tasks) × (kernel s .tasks .place ! t ≢ locking)
+      stands z =
+          let f = running-stood (kernel s) (λ e. z (runs ∙ e)) in
+          let place = ap (λ (x : ℕ). kernel s .tasks .place ! x) runs ∙ f .place in
+          (omega (arith, runs, f .high), λ (p : kernel s .tasks .place ! t ≡ locking). omega (arith, sym p ∙ place))
+
+-- the call
 module _ (mutex timeout : ℤ) {b : ℤ} (b-is : b ≡ mutex) {found : MaybeMutex} (from : found ≡ maybeMutex (fieldNumber b mutexes)) where
   named-mutex : found ≡ maybeMutex (fieldNumber mutex mutexes)
   named-mutex = rw b-is at from
@@ -121,18 +152,17 @@ module _ (mutex timeout : ℤ) {b : ℤ} (b-is : b ≡ mutex) {found : MaybeMute
 
     module _ {caller h : ℕ} {s log l1 : List ℕ} {at p : ℕ} (size : length s ≡ wordCount) (runs : caller ≡ running (kernel s))
         (h-is : h ≡ kernel s .mutexes .holder ! (m .0)) where
-      pub locks-waiting : h ≢ 0 → Appends log at (answerBytes Waits) l1 p → {n : ℕ} → n ≡ m .0 → {u : ℤ} → u ≡ timeout → {s' : List ℕ}
-          → DoesInWords (λ w. wait w caller (queue locking n) 0 u) s s'
+      pub locks-waiting : h ≢ 0 → Appends log at (answerBytes Waits) l1 p → {u : ℤ} → u ≡ timeout → {s' : List ℕ}
+          → DoesInWords (λ w. wait w caller (queue locking (m .0)) 0 u) s s'
           → CarriesInWords caller (λ w. locMtx w (number mutex) timeout) s log at s' l1 (record { answer = Waits; next = p })
-      locks-waiting e a n-is u-is d =
+      locks-waiting e a u-is d =
           in-words-as caller (λ store outbox. lock-waits _ (number mutex) timeout (rw number-is (waits-held (kernel s) (m .0) h-is e)) ∙ rw (number-is, ← runs))
-          (carried-in-words caller Waits Nothing _ size (answer-alone caller Waits a) (rw (n-is, u-is) at d))
+          (carried-in-words caller Waits Nothing _ size (answer-alone caller Waits a) (rw u-is at d))
 
-      pub locks-free : h ≡ 0 → Appends log at (answerBytes (Code E-OK)) l1 p → {n : ℕ} → n ≡ caller → {s1 s' : List ℕ}
-          → Represents s1 (withHolder (kernel s) (m .0) n) → Represents s' (recompute (kernel s1))
+      pub locks-free : h ≡ 0 → Appends log at (answerBytes (Code E-OK)) l1 p → {s' : List ℕ} → Represents s' (recompute (withHolder (kernel s) (m .0) caller))
           → CarriesInWords caller (λ w. locMtx w (number mutex) timeout) s log at s' l1 (record { answer = Code E-OK; next = p })
       unfolding settled withKernel
-      locks-free e a n-is x y =
+      locks-free e a x =
           in-words-as caller (λ store outbox. lock-free _ (number mutex) timeout (rw number-is (waits-free (kernel s) (m .0) h-is e)) ∙ rw (number-is, ← runs))
           (carried-in-words caller (Code E-OK) Nothing _ size (answer-alone caller (Code E-OK) a)
-          (changes-kernel (λ k. recompute (withHolder k (m .0) caller)) (record { length = y .length; kernel = cc })))
+          (changes-kernel (λ k. recompute (withHolder k (m .0) caller)) x))

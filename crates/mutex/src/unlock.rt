@@ -1,5 +1,5 @@
 // unl_mtx: the caller gives up a mutex.
-use act::mutex::release;
+use act::mutex::release_settled;
 use model::call::Answer;
 use model::code::E_ID;
 use model::code::E_ILUSE;
@@ -20,6 +20,7 @@ ghost use Rattle.model.specs.Code.{number};
 ghost use Rattle.model.specs.World.{running};
 ghost use Rattle.model.specs.Refusal.{firstRefusal, unlMtxRefusals};
 ghost use Rattle.model.specs.Effect.{unlMtx};
+ghost use Rattle.model.specs.Valid.{Arrivals, Priorities};
 ghost use Rattle.model.specs.Words.{wordCount, kernel};
 ghost use Rattle.reply.specs.Replies.{verdict, CarriesInLog};
 
@@ -52,6 +53,8 @@ pub fn unl_mtx(
 ) -> Reply
     requires { ⌜ length (now state) ≡ wordCount ⌝ }
     requires { ⌜ firstRefusal (unlMtxRefusals (kernel (now state)) mutex) ≡ none ⌝ }
+    requires { ⌜ Priorities (kernel (now state)) ⌝ }
+    requires { ⌜ Arrivals (kernel (now state)) ⌝ }
     ensures { λ r. ⌜ CarriesInLog (caller .0) (λ w. unlMtx w (number mutex)) (now (state .entry)) (now (outbox .entry)) (now (log .entry)) at (now (state .exit)) (now (outbox .exit)) (now (log .exit)) r ⌝ }
 {
     let answer = Answer::Code(E_OK);
@@ -63,7 +66,7 @@ pub fn unl_mtx(
         };
     };
     let waits = log_answer(log, at, answer);
-    let next = release(state, outbox, log, waits, m);
+    let next = release_settled(state, outbox, log, waits, m);
     Reply {
         answer: answer,
         next: next,

@@ -22,18 +22,23 @@ use search::unused::unused_pool;
 use state::pool;
 ghost use Prim.Native.Nat.{_*_};
 ghost use mathlib.Core.Path.{_≡_};
+ghost use mathlib.Core.Bool.{false};
 ghost use mathlib.Core.Option.{none};
+ghost use lib.IntN.{pos};
 ghost use lib.ListN.{length};
+ghost use Rattle.model.specs.Sizes.{blocks, blockBytes};
 ghost use Rattle.model.specs.Code.{number};
-ghost use Rattle.model.specs.Refusal.{firstRefusal, creMpfRefusals};
+ghost use Rattle.model.specs.Refusal.{firstRefusal, creMpfRefusals, outside as isOutside};
 ghost use Rattle.model.specs.Effect.{creMpf};
 ghost use Rattle.model.specs.Words.{wordCount, kernel};
 ghost use Rattle.state.specs.Words.{Represents};
 ghost use Rattle.reply.specs.Replies.{verdict, CarriesInWords};
 ghost use Rattle.pool.specs.Rows.{poolRow};
 
-// A pool's bytes, asked of fields that are in range; any two words have a product.
+// A pool's bytes, asked of fields that are in range alone.
 fn bytes(count: i32, size: i32) -> usize
+    requires { ⌜ isOutside (pos 1) (pos blocks) count ≡ false ⌝ }
+    requires { ⌜ isOutside (pos 1) (pos blockBytes) size ≡ false ⌝ }
     ensures { λ r. ⌜ r ≡ number count * number size ⌝ }
 {
     natural(count) as usize * natural(size) as usize

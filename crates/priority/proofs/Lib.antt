@@ -1,4 +1,5 @@
 pub mod EffectiveLaws
+pub mod SettledLaws
 pub mod OwnLaws
 pub mod StepLaws
 pub mod WordLaws

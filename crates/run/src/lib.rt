@@ -10,9 +10,8 @@ use script::log::log_too_long;
 use script::reader::message;
 use script::reader::read_record;
 ghost use mathlib.Core.Path.{_≡_};
-ghost use Rattle.model.specs.Lent.{lentRecord};
 ghost use Rattle.act.specs.Held.{areas};
-ghost use Rattle.run.specs.Runs.{ran, isOver};
+ghost use Rattle.run.specs.Runs.{Runs, isOver};
 
 // What comes of a script at a place, beside the areas: how it goes on, and how many bytes of log were written.
 pub struct Ran {
@@ -39,7 +38,7 @@ pub fn run_record(
     script: &[u8],
     at: Cursor,
 ) -> Ran
-    ensures { λ r. ⌜ ran r (areas (now (state .exit)) (now (store .exit)) (now (outbox .exit)) (now (log .exit))) ≡ lentRecord (areas (now (state .entry)) (now (store .entry)) (now (outbox .entry)) (now (log .entry))) (now (script .entry)) (at .at) ⌝ }
+    ensures { λ r. ⌜ Runs (areas (now (state .entry)) (now (store .entry)) (now (outbox .entry)) (now (log .entry))) (now (script .entry)) (at .at) (areas (now (state .exit)) (now (store .exit)) (now (outbox .exit)) (now (log .exit))) r ⌝ }
 {
     if log.len() != LOG_BYTES {
         return Ran {

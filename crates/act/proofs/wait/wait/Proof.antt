@@ -7,25 +7,16 @@ use Rattle.act.proofs.wait.wait.Tie as tie
 
 returns : tie.Need-returns
 returns c =
-    let e = toZ-ofZ
-    (c .before .before .before .before .before .before .before .before .before .before .before .before .before .before .before .before .before .before .before .fits .timeout) in
-    waits-locking _ _ _ _ _ _
-    (c .before .before .before .before .before .before .before .before .before .before .before .before .before .before .before .before .arrive .ensures)
-    (c .before .before .before .before .before .before .before .before .before .before .before .before .set-argument .ensures) (rw e at
-    (c .before .before .before .before .before .before .before .before .millis .ensures))
-    (c .before .before .before .before .before .before .before .set-left .ensures) (c .before .before .before .before .if1 .taken)
+    let d = c .before .before .before .before .before .before .before in
+    waits-locking _ _ _ _ _ _ (rw (toZ-ofZ (d .before .before .before .fits .timeout)) at (d .begin-wait .ensures)) (c .before .before .before .before .if1 .taken)
     (c .before .before .recompute .ensures)
 
 returns-2 : tie.Need-returns-2
 returns-2 c =
-    let e = toZ-ofZ
-    (c .before .before .before .before .before .before .before .before .before .before .before .before .before .before .before .fits .timeout) in
-    waits-other _ _ _ _ _ _ (c .before .before .before .before .before .before .before .before .before .before .before .before .arrive .ensures)
-    (c .before .before .before .before .before .before .before .before .set-argument .ensures) (rw e at (c .before .before .before .before .millis .ensures))
-    (c .before .before .before .set-left .ensures) (c .if1 .left)
+    let d = c .before .before .before in
+    waits-other _ _ _ _ _ _ (rw (toZ-ofZ (d .before .before .before .fits .timeout)) at (d .begin-wait .ensures)) (c .if1 .left)
 
 pub wait-spec : {M : Type 1} → statement M
 wait-spec =
     tie.close
-    (tie.spec (λ c κs. search needs) (λ c κs. search needs) (λ c κs. search needs) (λ c κs. search needs) (λ c κs. search needs) (λ c. search needs) returns
-    (λ c. search needs) returns-2)
+    (tie.spec (λ c κs. search needs) (λ c κs. search needs) (λ c. search needs) returns (λ c. search needs) returns-2)

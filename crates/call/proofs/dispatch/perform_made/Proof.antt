@@ -3,7 +3,7 @@ use borrow.Author.Needs.{needs}
 use Rattle.model.specs.declared.call.Call.the-variants.{CreTsk, DelTsk, StaTsk, TerTsk, ChgPri, CreMtx, DelMtx, LocMtx, UnlMtx, CreMbf, DelMbf, SndMbf, RcvMbf, CreMpf, DelMpf, GetMpf, RelMpf}
 use Rattle.model.specs.Refusal.{refusals}
 use Rattle.model.specs.Effect.{perform}
-use Rattle.call.proofs.Dispatching.{one, two, three, made-allowed, made-carries, made-answerable}
+use Rattle.call.proofs.Dispatching.{one, two, three, made-allowed, made-carries, made-valid, made-answerable}
 use Rattle.call.proofs.dispatch.perform_made.Statement.{statement}
 use Rattle.call.proofs.dispatch.perform_made.Tie as tie
 
@@ -75,14 +75,17 @@ unfolding refusals
 loc-mtx-requires c κs =
     let d = c .before .before in
     let h = d .before .before .before .before .before .before .before .before .pre in
-    (h .0 .words, (h .1 .0, made-allowed (two LocMtx _ _ (d .before .call8 .given .1) (d .known-told8 .given .0 .1) (d .known-told8 .given .1 .0 .1)) (h .0)))
+    let v = made-valid (h .0) in
+    let free = made-allowed (two LocMtx _ _ (d .before .call8 .given .1) (d .known-told8 .given .0 .1) (d .known-told8 .given .1 .0 .1)) (h .0) in
+    (h .0 .words, (h .1 .0, (free, (v .isPriorities, v .isLocking))))
 
 unl-mtx-requires : tie.Need-unl-mtx-requires
 unfolding refusals
 unl-mtx-requires c κs =
     let d = c .before .before .before in
     let h = d .before .before .before .before .before .before .before .before .pre in
-    (h .0 .words, made-allowed (one UnlMtx _ (d .before .call9 .given .1) (d .known-told9 .given .0 .1)) (h .0))
+    let v = made-valid (h .0) in
+    (h .0 .words, (made-allowed (one UnlMtx _ (d .before .call9 .given .1) (d .known-told9 .given .0 .1)) (h .0), (v .isPriorities, v .isArrivals)))
 
 cre-mbf-requires : tie.Need-cre-mbf-requires
 unfolding refusals

@@ -8,7 +8,7 @@ use Rattle.mutex.proofs.unlock.unl_mtx.Tie as tie
 returns : tie.Need-returns
 returns c =
     absurd (unlock-named _ _ (toZ-ofZ (c .before .before .before .before .before .before .fits .mutex)) (c .before .before .from-field .ensures)
-    (c .before .before .before .before .before .before .pre .1) (c .enum-told .given .1))
+    (c .before .before .before .before .before .before .pre .1 .0) (c .enum-told .given .1))
 
 returns-2 : tie.Need-returns-2
 returns-2 c =
@@ -17,7 +17,7 @@ returns-2 c =
     let d = b .before .before .before in
     let e = d .before .before .before .before .before .before in
     unlocks _ (toZ-ofZ (e .fits .mutex)) (d .before .before .from-field .ensures) (d .found .given .1) _ (e .pre .0) (b .log-answer .ensures)
-    (a .release .ensures)
+    (a .release-settled .ensures)
 
 pub unl-mtx-spec : {M : Type 1} → statement M
 unl-mtx-spec =
