@@ -1,0 +1,10 @@
+pub mod Words
+pub mod Numbers
+pub mod Reasons
+pub mod Read
+pub mod Calls
+pub mod Fields
+pub mod Messages
+pub mod Lines
+pub mod Assembled
+pub mod Cases

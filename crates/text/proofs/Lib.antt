@@ -1,0 +1,10 @@
+pub mod Naming
+pub mod Digits
+pub mod Signs
+pub mod Texts
+pub mod Trimming
+pub mod Loops
+pub mod Here
+pub mod Fitting
+pub mod Cutting
+pub mod Examples
