@@ -1,0 +1,3 @@
+pub mod Making
+pub mod Telling
+pub mod Showing

@@ -1,0 +1,4 @@
+pub mod Outcome
+pub mod Fresh
+pub mod Shown
+pub mod Made

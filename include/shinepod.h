@@ -1,0 +1,195 @@
+/*
+ * shinepod.h: the kernel as a library for C. docs/LIBRARY.md says how to build and link it.
+ *
+ * All memory is the caller's. A kernel is four areas that the caller lends to each call, each as a pointer and a length:
+ *
+ *     state    SHINEPOD_STATE_WORDS words       which tasks, mutexes, buffers and pools there are, and the queues
+ *     store    SHINEPOD_STORE_BYTES bytes       the messages of the buffers
+ *     outbox   SHINEPOD_OUTBOX_BYTES bytes      the messages of the tasks that wait to send
+ *     log      SHINEPOD_LOG_BYTES bytes         what the last call did
+ *
+ * Lengths are counted in elements. The library keeps nothing between calls, allocates nothing, and never fails but by its answer. Areas
+ * may hold anything: what they hold is checked in each call, and an area of another length is refused.
+ *
+ * What is proved: for all areas, of all lengths and contents, and for all arguments, a function gives and leaves what its definition
+ * says, and touches nothing else. Nothing is asked but what C itself cannot say, which is the caller's to keep:
+ *
+ *   - Every pointer is valid for as many elements as are handed over with it, aligned, and not null, also where the length is 0.
+ *   - The areas, the message, the script and the results of one call do not overlap.
+ *   - No other thread touches an area while a call runs: two threads may not use one kernel at a time. Two kernels are independent.
+ */
+#ifndef SHINEPOD_H
+#define SHINEPOD_H
+
+#include <stdbool.h>
+#include <stddef.h>
+#include <stdint.h>
+
+/* Every number: sizes SHINEPOD_.., codes E_.., kinds TK_.., and the outcomes and places below. Made from the crates' sources. */
+#include "shinepod_numbers.h"
+
+#ifdef __cplusplus
+extern "C" {
+#endif
+
+/* The manual's types. All are signed numbers of 32 bits here, attributes too. */
+typedef int32_t INT;
+typedef int32_t SZ;
+typedef int32_t ER;
+typedef int32_t ID;
+typedef int32_t ATR;
+typedef int32_t PRI;
+typedef int32_t TMO;
+
+/* The manual's attributes and timeouts. TA_TPRI orders a queue by priority; in a mutex's attribute it is one of four numbers. */
+#define TA_TFIFO SHINEPOD_BY_ARRIVAL
+#define TA_TPRI SHINEPOD_BY_PRIORITY
+#define TA_INHERIT SHINEPOD_INHERITS
+#define TA_CEILING SHINEPOD_CEILINGED
+#define TMO_POL 0
+#define TMO_FEVR (-1)
+
+/*
+ * The areas become the fresh kernel: task 1 runs, and nothing else is there. E_OK; or E_SYS, and nothing is changed, if a length is
+ * another. What the areas hold before does not matter.
+ */
+ER shinepod_fresh(uint32_t *state, size_t state_words, uint8_t *store, size_t store_bytes, uint8_t *outbox, size_t outbox_bytes);
+
+/*
+ * One call of the task that runs, by its kind (TK_..) and up to three fields in the manual's order; fields that the call has not are not
+ * looked at. The message is that of TK_SND_MBF: its first msgsz bytes count, zeros where fewer are handed over, and no byte behind the
+ * first SHINEPOD_MESSAGE_BYTES. Gives
+ *
+ *     SHINEPOD_ANSWERED       *code is the answer: a number or 0 if all went well, else one of E_..
+ *     SHINEPOD_WAITS          the caller waits; *code is 0
+ *     SHINEPOD_EXITED         the caller has exited, by TK_EXT_TSK; *code is 0
+ *     SHINEPOD_UNKNOWN_KIND   no call has the kind; nothing is changed, *code and *written are 0
+ *
+ * *written bytes at the front of the log area tell what happened, the rest of it stays as it came; their form is that of a script's log.
+ * A negative code leaves state, store and outbox as they came. E_SYS also says that an area has another length, or that it does
+ * not hold what a kernel leaves there: a log area of another length stays as it came too, and *written is 0.
+ */
+uint32_t shinepod_call(uint32_t *state, size_t state_words, uint8_t *store, size_t store_bytes, uint8_t *outbox, size_t outbox_bytes,
+                       uint8_t *log, size_t log_bytes, uint8_t kind, int32_t first, int32_t second, int32_t third,
+                       const uint8_t *message, size_t message_bytes, ER *code, size_t *written);
+
+/*
+ * The record at *at of a script: as shinepod_call, and *at goes on to the next record. Gives also
+ *
+ *     SHINEPOD_OVER           the script is over: at its end, or where a record has an unknown kind or is cut, or because it has more
+ *                             than SHINEPOD_SCRIPT_BYTES bytes. The log says which. *at stays, *code is 0.
+ *
+ * With a log area of another length nothing is done: E_SYS, *written is 0, and *at stays. *at may be any number.
+ */
+uint32_t shinepod_run_record(uint32_t *state, size_t state_words, uint8_t *store, size_t store_bytes, uint8_t *outbox,
+                             size_t outbox_bytes, uint8_t *log, size_t log_bytes, const uint8_t *script, size_t script_bytes,
+                             size_t *at, ER *code, size_t *written);
+
+/*
+ * Where the next message of a buffer lies, which is the one that a receive would take. Gives SHINEPOD_IN_STORE or SHINEPOD_IN_OUTBOX: its
+ * *size bytes lie in that area from *at on. SHINEPOD_NOWHERE, and both are 0, if there is no message or no such buffer, or if the areas
+ * are not valid. Nothing is changed, and it lies there until the next call.
+ */
+uint32_t shinepod_next_message(const uint32_t *state, size_t state_words, const uint8_t *store, size_t store_bytes,
+                               const uint8_t *outbox, size_t outbox_bytes, ID buffer, size_t *at, size_t *size);
+
+/* Whether the areas have their lengths and hold what a kernel can leave there. Nothing is changed. */
+bool shinepod_is_valid(const uint32_t *state, size_t state_words, const uint8_t *store, size_t store_bytes, const uint8_t *outbox,
+                       size_t outbox_bytes);
+
+/* ---- The same in fewer words: areas of the right lengths in one place, and the manual's calls by their names. */
+
+typedef struct {
+    uint32_t state[SHINEPOD_STATE_WORDS];
+    uint8_t store[SHINEPOD_STORE_BYTES];
+    uint8_t outbox[SHINEPOD_OUTBOX_BYTES];
+    uint8_t log[SHINEPOD_LOG_BYTES];
+} shinepod;
+
+typedef struct {
+    uint32_t outcome;
+    ER code;
+    size_t written;
+} shinepod_answer;
+
+static inline ER shinepod_start(shinepod *k) {
+    return shinepod_fresh(k->state, SHINEPOD_STATE_WORDS, k->store, SHINEPOD_STORE_BYTES, k->outbox, SHINEPOD_OUTBOX_BYTES);
+}
+
+static inline shinepod_answer shinepod_make(shinepod *k, uint8_t kind, int32_t first, int32_t second, int32_t third, const void *message,
+                                            size_t message_bytes) {
+    static const uint8_t none[1] = {0};
+    shinepod_answer answer;
+    const uint8_t *bytes = message_bytes == 0 ? none : (const uint8_t *)message;
+    answer.outcome = shinepod_call(k->state, SHINEPOD_STATE_WORDS, k->store, SHINEPOD_STORE_BYTES, k->outbox, SHINEPOD_OUTBOX_BYTES,
+                                   k->log, SHINEPOD_LOG_BYTES, kind, first, second, third, bytes, message_bytes, &answer.code,
+                                   &answer.written);
+    return answer;
+}
+
+static inline shinepod_answer shinepod_cre_tsk(shinepod *k, PRI itskpri) { return shinepod_make(k, TK_CRE_TSK, itskpri, 0, 0, NULL, 0); }
+
+static inline shinepod_answer shinepod_del_tsk(shinepod *k, ID tskid) { return shinepod_make(k, TK_DEL_TSK, tskid, 0, 0, NULL, 0); }
+
+static inline shinepod_answer shinepod_sta_tsk(shinepod *k, ID tskid) { return shinepod_make(k, TK_STA_TSK, tskid, 0, 0, NULL, 0); }
+
+static inline shinepod_answer shinepod_ext_tsk(shinepod *k) { return shinepod_make(k, TK_EXT_TSK, 0, 0, 0, NULL, 0); }
+
+static inline shinepod_answer shinepod_ter_tsk(shinepod *k, ID tskid) { return shinepod_make(k, TK_TER_TSK, tskid, 0, 0, NULL, 0); }
+
+static inline shinepod_answer shinepod_chg_pri(shinepod *k, ID tskid, PRI tskpri) {
+    return shinepod_make(k, TK_CHG_PRI, tskid, tskpri, 0, NULL, 0);
+}
+
+static inline shinepod_answer shinepod_cre_mtx(shinepod *k, ATR mtxatr, PRI ceilpri) {
+    return shinepod_make(k, TK_CRE_MTX, mtxatr, ceilpri, 0, NULL, 0);
+}
+
+static inline shinepod_answer shinepod_del_mtx(shinepod *k, ID mtxid) { return shinepod_make(k, TK_DEL_MTX, mtxid, 0, 0, NULL, 0); }
+
+static inline shinepod_answer shinepod_loc_mtx(shinepod *k, ID mtxid, TMO tmout) {
+    return shinepod_make(k, TK_LOC_MTX, mtxid, tmout, 0, NULL, 0);
+}
+
+static inline shinepod_answer shinepod_unl_mtx(shinepod *k, ID mtxid) { return shinepod_make(k, TK_UNL_MTX, mtxid, 0, 0, NULL, 0); }
+
+static inline shinepod_answer shinepod_cre_mbf(shinepod *k, ATR mbfatr, SZ bufsz, INT maxmsz) {
+    return shinepod_make(k, TK_CRE_MBF, mbfatr, bufsz, maxmsz, NULL, 0);
+}
+
+static inline shinepod_answer shinepod_del_mbf(shinepod *k, ID mbfid) { return shinepod_make(k, TK_DEL_MBF, mbfid, 0, 0, NULL, 0); }
+
+/* msgsz bytes are read from msg, but none for a number below 0, and no more than SHINEPOD_MESSAGE_BYTES. */
+static inline shinepod_answer shinepod_snd_mbf(shinepod *k, ID mbfid, const void *msg, INT msgsz, TMO tmout) {
+    size_t bytes = msgsz < 0 ? 0 : msgsz < SHINEPOD_MESSAGE_BYTES ? (size_t)msgsz : SHINEPOD_MESSAGE_BYTES;
+    return shinepod_make(k, TK_SND_MBF, mbfid, msgsz, tmout, msg, bytes);
+}
+
+/* The message stands in the log, behind the code. */
+static inline shinepod_answer shinepod_rcv_mbf(shinepod *k, ID mbfid, TMO tmout) {
+    return shinepod_make(k, TK_RCV_MBF, mbfid, tmout, 0, NULL, 0);
+}
+
+static inline shinepod_answer shinepod_cre_mpf(shinepod *k, ATR mpfatr, SZ mpfcnt, SZ blfsz) {
+    return shinepod_make(k, TK_CRE_MPF, mpfatr, mpfcnt, blfsz, NULL, 0);
+}
+
+static inline shinepod_answer shinepod_del_mpf(shinepod *k, ID mpfid) { return shinepod_make(k, TK_DEL_MPF, mpfid, 0, 0, NULL, 0); }
+
+/* The block stands in the log, behind the code. */
+static inline shinepod_answer shinepod_get_mpf(shinepod *k, ID mpfid, TMO tmout) {
+    return shinepod_make(k, TK_GET_MPF, mpfid, tmout, 0, NULL, 0);
+}
+
+static inline shinepod_answer shinepod_rel_mpf(shinepod *k, ID mpfid, INT block) {
+    return shinepod_make(k, TK_REL_MPF, mpfid, block, 0, NULL, 0);
+}
+
+/* One millisecond passes. */
+static inline shinepod_answer shinepod_tick(shinepod *k) { return shinepod_make(k, TK_TICK, 0, 0, 0, NULL, 0); }
+
+#ifdef __cplusplus
+}
+#endif
+
+#endif
