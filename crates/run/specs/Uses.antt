@@ -67,12 +67,12 @@ pub record Begun (b : AreasWithLedger) : Type 0 where
   pub outbox : b .areas .outbox ≡ zeros outboxBytes
   pub ledger : b .ledger ≡ freshLedger
 
--- "Over every list of calls from the fresh state, refused ones too": the words and areas stay valid, and priorities, queue orders and the running task are those that the ledger
--- gives worked out afresh.
+-- "Demand 3 is a single claim about the whole list": after any uses, refused calls among them, the words and areas are valid, and priorities, the order of every queue and the
+-- running task are those that the ledger gives worked out afresh.
 abbrev pub UsesAgree : Type 0
 UsesAgree = (b : AreasWithLedger) (us : List Use) → Begun b → Every (λ u. InvocationFits (invocation u)) us → AllPromised (b .areas) us → AgreesLent (foldl afterUse b us)
 
--- "a priority changes across a call only for 01's reasons"
+-- "Demand 3's last sentence", across each use
 abbrev pub UsesAreExplained : Type 0
 UsesAreExplained =
     (b : AreasWithLedger) (us : List Use) → Begun b → Every (λ u. InvocationFits (invocation u)) us → AllPromised (b .areas) us
