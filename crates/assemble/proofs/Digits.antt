@@ -1,12 +1,17 @@
 -- A number digit by digit. Assumes nothing.
-use Prim.Native.Nat.{ℕ, _+_, _*_, _-_, _^_, _≤_, _<_}
+use Prim.Native.Nat.{ℕ, suc, _+_, _*_, _-_, _^_, _≤_, _<_}
 use native.Mathlib.Omega.{arith}
 use mathlib.Core.Path.{_≡_, _∙_, refl, sym, ap}
 use mathlib.Core.List.{List, foldl}
 use lib.ListN.{length, drop, drop-of-length-le}
-use Rattle.model.proofs.Terms.{_!_, eq-eqb, ne-eqb, le-leb, lt-leb, lt-ltb, le-ltb}
+use lib.IntN.{ℤ, pos, negsuc, _-ℤ_}
+use mir.Syntax.{w32}
+use mir.Val.{SFits, toZ, ofZ}
+use mir.Facts.{toZ-pos, toZ-ofZ}
+use Rattle.script.proofs.Signed.{less-than-minus-one}
+use Rattle.model.proofs.Terms.{_!_, minus, eq-eqb, ne-eqb, le-leb, lt-leb, lt-ltb, le-ltb}
 use Rattle.assemble.specs.declared.number.Number.{Number}
-use Rattle.assemble.specs.declared.number.Number.the-variants.{Bits, Nothing}
+use Rattle.assemble.specs.declared.number.Number.the-variants.{Value, Nothing}
 use Rattle.assemble.specs.Numbers.{largest, noNumber, withDigit, magnitude, fromZeroUp, belowZero, numberAt}
 use Rattle.assemble.proofs.Runs.{next-byte}
 
@@ -55,7 +60,7 @@ module _ (w : List ℕ) (from : ℕ) where
   last-digit i n inv h = sym (inv ∙ ap (foldl withDigit n) (drop-of-length-le w h))
 
 -- the sign
-pub up-small : (n : ℕ) → n < largest → Bits n ≡ fromZeroUp n
+pub up-small : (n : ℕ) → n < largest → Value (toZ w32 n) ≡ fromZeroUp n
 unfolding fromZeroUp
 up-small n h = rw (lt-ltb n largest h, fromZeroUp) refl
 
@@ -63,19 +68,33 @@ pub up-large : (n : ℕ) → largest ≤ n → Nothing ≡ fromZeroUp n
 unfolding fromZeroUp
 up-large n h = rw (le-ltb n largest h, fromZeroUp) refl
 
-pub down-none : (n : ℕ) → n ≡ noNumber → Nothing ≡ belowZero n
+pub down-none : (n : ℕ) → largest < n → Nothing ≡ belowZero n
 unfolding belowZero
-down-none n e = rw (eq-eqb n noNumber e, belowZero) refl
+down-none n h = rw (lt-leb n largest h, belowZero) refl
 
-pub down-zero : (n : ℕ) → (n ≡ noNumber → ⊥) → n ≡ 0 → Bits 0 ≡ belowZero n
+pub down-zero : (n : ℕ) → n ≤ largest → n ≡ 0 → Value (pos 0) ≡ belowZero n
 unfolding belowZero
-down-zero n some e = rw (ne-eqb n noNumber some, eq-eqb n 0 e, belowZero) refl
+down-zero n h e = rw (le-leb n largest h, belowZero, e) refl
 
-pub down-more : (n : ℕ) → (n ≡ noNumber → ⊥) → (n ≡ 0 → ⊥) → n < 2 ^ 32 → Bits (2 ^ 32 - 1 - (n - 1)) ≡ belowZero n
-unfolding belowZero
-down-more n some more fits =
-    let e : 2 ^ 32 - 1 - (n - 1) ≡ 2 ^ 32 - n = omega arith in
-    rw (ne-eqb n noNumber some, ne-eqb n 0 more, belowZero) (ap Bits e)
+-- -1 and down from there
+module _ (n : ℕ) (h : n ≤ largest) (more : n ≡ 0 → ⊥) where
+  abbrev machine : ℤ
+  machine = negsuc 0 -ℤ toZ w32 (n - 1)
+
+  low : n - 1 < 2 ^ 31
+  low = omega arith
+
+  below : machine ≡ negsuc (n - 1)
+  below = ap (λ (z : ℤ). negsuc 0 -ℤ z) (toZ-pos w32 low) ∙ less-than-minus-one (n - 1)
+
+  pub down-fits : SFits w32 machine
+  down-fits = rw below (record { sfits = low })
+
+  pub down-more : Value (toZ w32 (ofZ w32 machine)) ≡ belowZero n
+  unfolding belowZero
+  down-more =
+      let e : suc (n - 1) ≡ n = omega arith in
+      rw (le-leb n largest h, belowZero) (ap Value (toZ-ofZ down-fits ∙ below) ∙ ap (λ (k : ℕ). Value (minus k)) e)
 
 module _ (w : List ℕ) (from : ℕ) where
   pub number-none : length w ≤ from → Nothing ≡ numberAt w from
@@ -104,6 +123,7 @@ pub ruleset digits = (
   up-large,
   down-none,
   down-zero,
+  down-fits,
   down-more,
   number-none,
   number-below,

@@ -1,15 +1,20 @@
 -- Fields, one by one. Assumes nothing.
-use Prim.Native.Nat.{ℕ, suc, _+_, _-_, _≤_, _<_}
+use Prim.Native.Nat.{ℕ, suc, _+_, _-_, _^_, _≤_, _<_}
 use native.Mathlib.Omega.{arith}
 use mathlib.Core.Path.{_≡_, _∙_, refl, sym, ap, ap₂}
 use mathlib.Core.Bool.{Bool, true, false}
 use mathlib.Core.List.{List}
 use lib.ListN.{length, take, drop, set, length-set}
-use Rattle.model.proofs.Terms.{_!_, eq-eqb, ne-eqb, lt-ltb, le-ltb}
+use lib.IntN.{ℤ}
+use lib.Signed.{mag}
+use mir.Syntax.{w32}
+use mir.Val.{toZ, ofZ}
+use Rattle.script.proofs.Signed.{read-back}
+use Rattle.model.proofs.Terms.{lt-ltb, le-ltb}
 use Rattle.assemble.specs.declared.number.Number.{Number}
-use Rattle.assemble.specs.declared.number.Number.the-variants.{Bits, Nothing}
+use Rattle.assemble.specs.declared.number.Number.the-variants.{Value as Is, Nothing}
 use Rattle.assemble.specs.declared.reason.Reason.{Reason}
-use Rattle.assemble.specs.declared.reason.Reason.the-variants.{FieldMissing, NotANumber}
+use Rattle.assemble.specs.declared.reason.Reason.the-variants.{FieldMissing, OtherField, NotANumber}
 use Rattle.assemble.specs.declared.reason.Step.the-variants.{Next, Wrong}
 use Rattle.assemble.specs.declared.field.Field.{Field}
 use Rattle.assemble.specs.declared.field.Field.the-variants.{Value, Wrong as WrongField}
@@ -17,30 +22,35 @@ use Rattle.assemble.specs.Words.{wordStart, wordEnd, wordAt, isOver}
 use Rattle.assemble.specs.Numbers.{numberAt}
 use Rattle.assemble.specs.Calls.{same}
 use Rattle.assemble.specs.Read.{Read, read}
-use Rattle.assemble.specs.Fields.{valuePlace, fieldOf, fieldAt, fieldsFrom}
+use Rattle.assemble.specs.Fields.{nameLength, numbered, numberFrom, fieldOf, fieldAt, fieldsFrom}
 
--- a field's name in front of its number
-module _ (name word : List ℕ) where
-  pub word-short : length word ≤ length name → 0 ≡ valuePlace name word
-  unfolding valuePlace
-  word-short h = rw (le-ltb (length name) (length word) h, valuePlace) refl
+-- a word's number
+module _ (word : List ℕ) (from : ℕ) (n : Number) (en : n ≡ numberAt word from) where
+  pub is-number : (z : ℤ) → n ≡ Is z → Value z ≡ numberFrom word from
+  unfolding numberFrom
+  is-number z e = sym (ap numbered (sym en ∙ e))
 
-  module _ (l : length name < length word) where
-    pub no-equals : (word ! length name ≡ 61 → ⊥) → 0 ≡ valuePlace name word
-    unfolding valuePlace
-    no-equals h = rw (lt-ltb (length name) (length word) l, ne-eqb (word ! length name) 61 h, valuePlace) refl
+  pub is-none : n ≡ Nothing → WrongField NotANumber ≡ numberFrom word from
+  unfolding numberFrom
+  is-none e = sym (ap numbered (sym en ∙ e))
 
-    module _ (t : Bool) (p : List ℕ) (q : word ! length name ≡ 61) (ep : p ≡ take (length name) word) (et : t ≡ same p name) where
-      e : t ≡ same (take (length name) word) name
-      e = et ∙ ap (λ (l : List ℕ). same l name) ep
+-- a name in front of it
+module _ (name word : List ℕ) (n : ℕ) (en : n ≡ nameLength word) where
+  pub no-name : (f : Field) → length word ≤ n → f ≡ numberFrom word 0 → f ≡ fieldOf name word
+  unfolding fieldOf
+  no-name f h e = rw (fieldOf, sym en, le-ltb n (length word) h) e
 
-      pub its-name : t ≡ true → length name + 1 ≡ valuePlace name word
-      unfolding valuePlace
-      its-name h = rw (lt-ltb (length name) (length word) l, eq-eqb (word ! length name) 61 q, sym e ∙ h, valuePlace) refl
+  module _ (l : n < length word) (t : Bool) (p : List ℕ) (ep : p ≡ take n word) (et : t ≡ same p name) where
+    is-same : same (take n word) name ≡ t
+    is-same = sym (et ∙ ap (λ (x : List ℕ). same x name) ep)
 
-      pub other-name : t ≡ false → 0 ≡ valuePlace name word
-      unfolding valuePlace
-      other-name h = rw (lt-ltb (length name) (length word) l, eq-eqb (word ! length name) 61 q, sym e ∙ h, valuePlace) refl
+    pub its-name : (f : Field) → t ≡ true → f ≡ numberFrom word (n + 1) → f ≡ fieldOf name word
+    unfolding fieldOf
+    its-name f h e = rw (fieldOf, sym en, lt-ltb n (length word) l, is-same ∙ h) e
+
+    pub other-name : t ≡ false → WrongField OtherField ≡ fieldOf name word
+    unfolding fieldOf
+    other-name h = rw (fieldOf, sym en, lt-ltb n (length word) l, is-same ∙ h) refl
 
 -- the field at a place
 module _ (name line : List ℕ) (at : ℕ) (t : Bool) (over : t ≡ isOver (drop at line)) where
@@ -48,25 +58,16 @@ module _ (name line : List ℕ) (at : ℕ) (t : Bool) (over : t ≡ isOver (drop
   unfolding fieldAt
   field-missing h = rw (sym over ∙ h, fieldAt) refl
 
-  module _ (h : t ≡ false) (w : List ℕ) (ew : w ≡ wordAt line at) (k : ℕ) (ek : k ≡ valuePlace name w) (n : Number) (en : n ≡ numberAt w k) where
-    is-number : fieldAt name line at ≡ fieldOf n
-    unfolding fieldAt
-    is-number =
-        rw (sym over ∙ h, fieldAt)
-        (ap (λ (v : List ℕ). fieldOf (numberAt v (valuePlace name v))) (sym ew) ∙ ap (λ (v : ℕ). fieldOf (numberAt w v)) (sym ek) ∙ ap fieldOf (sym en))
-
-    pub field-number : (z : ℕ) → n ≡ Bits z → Value z ≡ fieldAt name line at
-    field-number z e = sym (is-number ∙ ap fieldOf e)
-
-    pub field-none : n ≡ Nothing → WrongField NotANumber ≡ fieldAt name line at
-    field-none e = sym (is-number ∙ ap fieldOf e)
+  pub field-here : (w : List ℕ) (f : Field) → t ≡ false → w ≡ wordAt line at → f ≡ fieldOf name w → f ≡ fieldAt name line at
+  unfolding fieldAt
+  field-here w f h ew ef = rw (sym over ∙ h, fieldAt) (ef ∙ ap (fieldOf name) ew)
 
 -- all of them
-module _ (count : ℕ) (before names : List ℕ) (from : ℕ) (line : List ℕ) (start : ℕ) where
-  abbrev pub AllFields : Read
+module _ (count : ℕ) (before : List ℤ) (names : List ℕ) (from : ℕ) (line : List ℕ) (start : ℕ) where
+  abbrev pub AllFields : Read ℤ
   AllFields = fieldsFrom count 0 before names from line start
 
-  pub record Reading (values : List ℕ) (i t at : ℕ) : Type 0 where
+  pub record Reading (values : List ℤ) (i t at : ℕ) : Type 0 where
     pub size : length values ≡ length before
     pub low : i ≤ count
     pub whole : AllFields ≡ fieldsFrom (count - i) i values names t line at
@@ -78,7 +79,7 @@ module _ (count : ℕ) (before names : List ℕ) (from : ℕ) (line : List ℕ) 
     whole = ap (λ (k : ℕ). fieldsFrom k 0 before names from line start) (let e : count ≡ count - 0 = omega arith in e);
   }
 
-  module _ {values : List ℕ} {i t at : ℕ} (r : Reading values i t at) where
+  module _ {values : List ℤ} {i t at : ℕ} (r : Reading values i t at) where
     module _ (h : i < count) (t′ at′ : ℕ) (name : List ℕ) (f : Field) (et : t′ ≡ wordStart names t) (ea : at′ ≡ wordStart line at)
         (en : name ≡ wordAt names t′) (ef : f ≡ fieldAt name line at′) where
       step : AllFields ≡ fieldsFrom (suc (count - (i + 1))) i values names t line at
@@ -87,15 +88,15 @@ module _ (count : ℕ) (before names : List ℕ) (from : ℕ) (line : List ℕ) 
       is-field : fieldAt (wordAt names (wordStart names t)) line (wordStart line at) ≡ f
       is-field = sym (ef ∙ ap₂ (λ (n : List ℕ) (a : ℕ). fieldAt n line a) (en ∙ ap (wordAt names) et) ea)
 
-      abbrev by-field : Field → Read
+      abbrev by-field : Field → Read ℤ
       by-field x =
           elim x [
             | WrongField why ↦ read values (Wrong why)
             | Value z ↦ fieldsFrom (count - (i + 1)) (suc i) (set values i z) names (wordEnd names (wordStart names t)) line (wordEnd line (wordStart line at))
           ]
 
-      pub reads : (z t″ at″ : ℕ) → f ≡ Value z → t″ ≡ wordEnd names t′ → at″ ≡ wordEnd line at′ → Reading (set values i z) (i + 1) t″ at″
-      reads z t″ at″ e et″ ea″ = record {
+      next-field : (z : ℤ) (t″ at″ : ℕ) → f ≡ Value z → t″ ≡ wordEnd names t′ → at″ ≡ wordEnd line at′ → Reading (set values i z) (i + 1) t″ at″
+      next-field z t″ at″ e et″ ea″ = record {
         size = length-set values i z ∙ r .size;
         low = omega arith;
         whole =
@@ -105,10 +106,15 @@ module _ (count : ℕ) (before names : List ℕ) (from : ℕ) (line : List ℕ) 
             ∙ ap (λ (k : ℕ). fieldsFrom (count - (i + 1)) k (set values i z) names t″ line at″) (let s : suc i ≡ i + 1 = omega arith in s);
       }
 
+      -- a field as the machine reads it back
+      pub reads : (z : ℤ) (t″ at″ : ℕ) → f ≡ Value z → mag z < 2 ^ 31 → t″ ≡ wordEnd names t′ → at″ ≡ wordEnd line at′
+          → Reading (set values i (toZ w32 (ofZ w32 z))) (i + 1) t″ at″
+      reads z t″ at″ e fits et″ ea″ = rw (read-back z fits) (next-field z t″ at″ e et″ ea″)
+
       pub field-wrong : (why : Reason) → f ≡ WrongField why → read values (Wrong why) ≡ AllFields
       field-wrong why e = sym (step ∙ ap by-field (is-field ∙ e))
 
     pub fields-end : count ≤ i → read values (Next at) ≡ AllFields
     fields-end h = sym (r .whole ∙ ap (λ (k : ℕ). fieldsFrom k i values names t line at) (let e : count - i ≡ 0 = omega arith in e))
 
-pub ruleset fields = (word-short, no-equals, its-name, other-name, field-missing, field-number, field-none, reading, reads, field-wrong, fields-end)
+pub ruleset fields = (is-number, is-none, no-name, its-name, other-name, field-missing, field-here, reading, reads, field-wrong, fields-end)

@@ -3,5 +3,10 @@ pub mod Digits
 pub mod Pieces
 pub mod Names
 pub mod Fielding
+pub mod Reporting
 pub mod Lines
 pub mod Texts
+pub mod ShownFields
+pub mod ShownMessages
+pub mod ShownLines
+pub mod Theorems

@@ -1,111 +1,116 @@
--- A line's record, and the report of a wrong line. Assumes nothing.
-use Prim.Native.Nat.{ℕ, zero, suc, _+_, _/_, _%_, _≤_}
-use lib.Dec.{ltb}
+-- A line's record. Assumes nothing.
+use Prim.Native.Nat.{ℕ, _+_, _/_, _^_, _≤_, _<_}
 use native.Mathlib.Omega.{arith}
 use mathlib.Core.Path.{_≡_, _∙_, refl, sym, ap, ap₂}
 use mathlib.Core.Bool.{Bool, true, false, cond}
-use mathlib.Core.List.{List, [], _∷_, _++_}
-use lib.ListN.{length, take, drop, length-append}
-use Rattle.model.proofs.Terms.{_!_, zeros, messageBytes, bytes4, leb-true, leb-false}
+use mathlib.Core.List.{List, [], _∷_}
+use mathlib.Core.Option.{Option}
+use lib.ListN.{length, take, drop}
+use lib.Seq.{length-take-le}
+use lib.Dec.{eqb}
+use lib.IntN.{ℤ}
+use lib.Signed.{mag}
+use Rattle.model.specs.declared.call.Call.{Call}
+use Rattle.model.specs.Message.{over}
+use Rattle.model.specs.Record.{Row, kinds, rowOf, kindOf, recordBytes}
+use Rattle.model.proofs.Terms.{zeros, messageBytes, eq-eqb, le-leb, leb-false}
 use Rattle.script.specs.declared.body.Body.{Body}
 use Rattle.script.specs.declared.body.Body.the-variants.{Parts, Unknown}
-use Rattle.script.specs.Body.{bodyParts}
-use Rattle.script.specs.Place.{room, Appends}
-use Rattle.script.proofs.Appending.{placed-none, next-room, wrote, wrote-more}
-use Rattle.script.proofs.Rows.{row-of-parts, fields-few}
-use Rattle.text.specs.Names.{ascii}
-use Rattle.text.specs.Numbers.{digit, digitsOf, decimal}
-use Rattle.text.specs.Line.{IsLine}
-use Rattle.text.proofs.Fitting.{is-line}
+use Rattle.script.specs.declared.writer.Wrote.{Wrote}
+use Rattle.script.specs.declared.writer.Wrote.the-variants.{Next as Written, NoRoom, WrongMessage}
+use Rattle.script.specs.Body.{bodyParts, fieldAt, made, callIn}
+use Rattle.script.specs.Place.{room}
+use Rattle.script.specs.Write.{messageLength, wrote, rewritten, Writes}
+use Rattle.script.proofs.Appending.{placed-room, placed-none}
+use Rattle.script.proofs.Rows.{KnownParts, row-of-parts, row-kind, fields-few, message-size, kind-made, made-of-three}
+use Rattle.script.proofs.Making.{three-back, same}
+use Rattle.script.proofs.Writing.{message-length, was-written}
 use Rattle.assemble.specs.declared.reason.Reason.{Reason}
-use Rattle.assemble.specs.declared.reason.Reason.the-variants.{UnknownCall, FieldMissing, NotANumber, BadMessage, LongMessage, LeftOver, LongScript}
+use Rattle.assemble.specs.declared.reason.Reason.the-variants.{UnknownCall, BadMessage, LeftOver, LongScript}
 use Rattle.assemble.specs.declared.reason.Step.{Step}
 use Rattle.assemble.specs.declared.reason.Step.the-variants.{Next, Wrong}
 use Rattle.assemble.specs.declared.name.Named.{Named}
 use Rattle.assemble.specs.declared.name.Named.the-variants.{Kind, Nothing}
 use Rattle.assemble.specs.Words.{wordStart, wordEnd, wordAt, isOver}
-use Rattle.assemble.specs.Reasons.{reasonText, report}
 use Rattle.assemble.specs.Read.{Read, read}
 use Rattle.assemble.specs.Calls.{kindNamed}
 use Rattle.assemble.specs.Fields.{fieldsRead}
 use Rattle.assemble.specs.Messages.{messageRead}
-use Rattle.assemble.specs.Lines.{Blank, Bytes, Bad, head, recordOf, endsWith, withMessage, withFields, withParts, callLine, withKind, lineAt, lineOf, Extends}
-
--- a match's arm
-pub arm : (reason k : Reason) (area after : List ℕ) (at next : ℕ) → reason ≡ k → Appends area at (reasonText k) after next
-    → Appends area at (reasonText reason) after next
-arm reason k area after at next e p = rw e p
-
-digits-short : (most n : ℕ) → length (digitsOf most n) ≤ most
-digits-short zero n = omega arith
-digits-short (suc most) n =
-    elim (ltb n 10) as (λ b. length (cond b (digit n ∷ []) (digitsOf most (n / 10) ++ digit (n % 10) ∷ [])) ≤ suc most)
-    [ true ↦ omega arith | false ↦ omega (arith, length-append (digitsOf most (n / 10)) (digit (n % 10) ∷ []), digits-short most (n / 10)) ]
-
-decimal-short : (n : ℕ) → length (decimal n) ≤ 20
-unfolding decimal
-decimal-short n = digits-short 20 n
-
--- no reason, and no report, is longer than the area for it
-reason-short : (reason : Reason) → length (reasonText reason) ≤ 40
-reason-short UnknownCall = omega arith
-reason-short FieldMissing = omega arith
-reason-short NotANumber = omega arith
-reason-short BadMessage = omega arith
-reason-short LongMessage = omega arith
-reason-short LeftOver = omega arith
-reason-short LongScript = omega arith
-
-report-short : (line : ℕ) (reason : Reason) → length (report line reason) ≤ 96
-unfolding report
-report-short line reason =
-    let a = ascii "line " ++ decimal line in
-    let b = a ++ ascii ": " in
-    let whole = length-append (b ++ reasonText reason) (ascii "\n") in
-    omega (arith, whole, length-append b (reasonText reason), length-append a (ascii ": "), decimal-short line, reason-short reason)
-
-module _ (line : ℕ) (reason : Reason) (area a b c d e : List ℕ) (i j k l m : ℕ) where
-  pub reported : Appends area 0 (ascii "line ") a i → Appends a i (decimal line) b j → Appends b j (ascii ": ") c k → Appends c k (reasonText reason) d l
-      → Appends d l (ascii "\n") e m → length area ≡ 96 → IsLine e m (report line reason)
-  unfolding report
-  reported p q r s t size =
-      is-line (let h : length (report line reason) ≤ length area = omega (arith, report-short line reason) in h)
-      (wrote-more (wrote-more (wrote-more (wrote-more (wrote p) (wrote q)) (wrote r)) (wrote s)) (wrote t))
-
-pub head-of : (kind a b c : ℕ) (x y z : List ℕ) → x ≡ bytes4 a → y ≡ bytes4 b → z ≡ bytes4 c
-    → kind ∷ x ! 0 ∷ x ! 1 ∷ x ! 2 ∷ x ! 3 ∷ y ! 0 ∷ y ! 1 ∷ y ! 2 ∷ y ! 3 ∷ z ! 0 ∷ z ! 1 ∷ z ! 2 ∷ z ! 3 ∷ [] ≡ head kind a b c
-head-of kind a b c x y z p q r = rw (p, q, r) refl
+use Rattle.assemble.specs.Lines.{Blank, Bytes, Bad, noFields, endsWith, withMessage, withFields, withParts, callLine, withKind, lineAt, lineOf, Extends}
 
 -- a record goes to the script, or there is no room for it
-module _ (s h m : List ℕ) (at : ℕ) (t : Bool) (e : t ≡ room (length s) at (length h + length m)) where
-  has-room : t ≡ room (length s) at (length (h ++ m))
-  has-room = e ∙ ap (room (length s) at) (sym (length-append h m))
+never : (n : ℕ) (has : Bool) → WrongMessage ≡ cond has (Written n) NoRoom → ⊥
+never n true e = let z : _≡_ {A = ℕ} 0 1 = cc in omega arith
+never n false e = let z : _≡_ {A = ℕ} 0 1 = cc in omega arith
 
-  pub record-fits : (after : List ℕ) (next : ℕ) → t ≡ true → Appends s at (h ++ m) after next → Extends s at (Bytes (h ++ m)) after (Next next)
-  record-fits after next y p =
-      let is : room (length s) at (length (h ++ m)) ≡ true = sym has-room ∙ y in
+without-room : (n : ℕ) (has : Bool) → NoRoom ≡ cond has (Written n) NoRoom → has ≡ false
+without-room n true e = absurd (let z : _≡_ {A = ℕ} 0 1 = cc in omega arith)
+without-room n false e = refl
+
+module _ (s : List ℕ) (at : ℕ) (c : Call) (m after : List ℕ) (w : Wrote) (p : Writes s at c m after w) (size : length m ≡ messageLength (kindOf c)) where
+  abbrev bytes : List ℕ
+  bytes = recordBytes c m
+
+  answer-is : w ≡ cond (room (length s) at (length bytes)) (Written (at + length bytes)) NoRoom
+  unfolding wrote
+  answer-is = p .answer ∙ rw (eq-eqb (length m) (messageLength (kindOf c)) size, wrote) refl
+
+  pub record-fits : (next : ℕ) → w ≡ Written next → Extends s at (Bytes bytes) after (Next next)
+  record-fits next e =
+      let k = was-written s at c m after next (rw e at p) in
       record {
-        answer = rw is (ap Next (p .place ∙ next-room s at (h ++ m) (leb-true (at + length (h ++ m)) (length s) is)));
-        area = p .area;
+        answer = rw (le-leb (at + length bytes) (length s) (k .fits)) (ap Next (sym (k .end)));
+        area = k .is ∙ sym (placed-room s at bytes (k .fits));
       }
 
-  pub record-long : t ≡ false → Extends s at (Bytes (h ++ m)) s (Wrong LongScript)
-  record-long n =
-      let is : room (length s) at (length (h ++ m)) ≡ false = sym has-room ∙ n in
-      record { answer = rw is refl; area = sym (placed-none s at (h ++ m) (leb-false (at + length (h ++ m)) (length s) is)) }
+  pub record-long : w ≡ NoRoom → Extends s at (Bytes bytes) after (Wrong LongScript)
+  unfolding rewritten
+  record-long e =
+      let none = without-room (at + length bytes) (room (length s) at (length bytes)) (sym e ∙ answer-is) in
+      record {
+        answer = rw none refl;
+        area = p .area
+            ∙ ap (λ (x : Wrote). elim x [ Written n ↦ over s at bytes | NoRoom ↦ s | WrongMessage ↦ s ]) (sym (p .answer) ∙ e)
+            ∙ sym (placed-none s at bytes (leb-false (at + length bytes) (length s) none));
+      }
 
--- a call's record, of the bytes that its kind has
-pub call-record : (s : List ℕ) (at kind fields : ℕ) (values : List ℕ) (size : ℕ) (message h x y after : List ℕ) (r : Step)
-    → h ≡ head kind (values ! 0) (values ! 1) (values ! 2) → x ≡ take (1 + fields) h → y ≡ take size message → Extends s at (Bytes (x ++ y)) after r
-    → Extends s at (Bytes (recordOf kind fields values size message)) after r
-unfolding recordOf
-call-record s at kind fields values size message h x y after r eh ex ey q =
-    let same : x ++ y ≡ recordOf kind fields values size message = ap₂ _++_ (ex ∙ ap (take (1 + fields)) eh) ey in rw same at q
+  pub record-never : w ≡ WrongMessage → Extends s at (Bytes bytes) after (Wrong BadMessage)
+  record-never e = absurd (never (at + length bytes) (room (length s) at (length bytes)) (sym e ∙ answer-is))
 
-pub few-fields : (kind : ℕ) (b : Body) (fields size : ℕ) → b ≡ bodyParts kind → b ≡ Parts fields size → fields ≤ 12
-few-fields kind b fields size eb ep =
-    let k = row-of-parts kind fields size (sym eb ∙ ep) in
-    omega (arith, fields-few kind (k .row) (k .is), k .fields)
+-- the call that the table makes of a kind's fields
+module _ (kind : ℕ) (b : Body) (fields size : ℕ) (eb : b ≡ bodyParts kind) (ep : b ≡ Parts fields size) where
+  abbrev its : KnownParts (rowOf kind) fields size
+  its = row-of-parts kind fields size (sym eb ∙ ep)
+
+  pub few-fields : fields ≤ 12
+  few-fields = omega (arith, fields-few kind (its .row) (its .is), its .fields)
+
+  made-by-row : (fs : List ℤ) → callIn kinds kind fs ≡ its .row .call (fieldAt fs)
+  unfolding callIn rowOf
+  made-by-row fs = ap (λ (found : Option Row). made found fs) (its .is)
+
+  -- of three fields, as the machine reads them back
+  module _ (vs : List ℤ) (c : Call) (f : mag (fieldAt vs 0) < 2 ^ 31) (g : mag (fieldAt vs 1) < 2 ^ 31) (h : mag (fieldAt vs 2) < 2 ^ 31)
+      (e : c ≡ callIn kinds kind (three-back (fieldAt vs 0) (fieldAt vs 1) (fieldAt vs 2))) where
+    pub call-of-three : c ≡ callIn kinds kind vs
+    call-of-three =
+        let back : three-back (fieldAt vs 0) (fieldAt vs 1) (fieldAt vs 2) ≡ fieldAt vs 0 ∷ fieldAt vs 1 ∷ fieldAt vs 2 ∷ [] =
+        same (record { sfits = f }) (record { sfits = g }) (record { sfits = h }) in
+        e ∙ ap (callIn kinds kind) back ∙ made-by-row (fieldAt vs 0 ∷ fieldAt vs 1 ∷ fieldAt vs 2 ∷ [])
+        ∙ made-of-three kind (its .row) (its .is) (fieldAt vs) ∙ sym (made-by-row vs)
+
+  size-few : (t : Bool) → cond t messageBytes 0 ≤ messageBytes
+  size-few true = omega arith
+  size-few false = omega arith
+
+  -- the message is as long as the kind has it
+  pub right-size : (fs : List ℤ) (c : Call) (m p : List ℕ) → c ≡ callIn kinds kind fs → length m ≡ messageBytes → p ≡ take size m
+      → length p ≡ messageLength (kindOf c)
+  right-size fs c m p ec em epp =
+      let few : size ≤ length m = omega (arith, its .message, message-size kind (its .row) (its .is), size-few (eqb (its .row .kind) 0x22)) in
+      ap length epp ∙ length-take-le size m few
+      ∙ sym (ap messageLength (ap kindOf (ec ∙ made-by-row fs) ∙ kind-made kind (its .row) (its .is) (fieldAt fs) ∙ row-kind kind (its .row) (its .is))
+      ∙ message-length kind (its .row) (its .is) ∙ its .message)
 
 -- what is behind a call's name
 module _ (s : List ℕ) (at kind : ℕ) (line : List ℕ) (from : ℕ) (b : Body) (eb : b ≡ bodyParts kind) where
@@ -114,38 +119,40 @@ module _ (s : List ℕ) (at kind : ℕ) (line : List ℕ) (from : ℕ) (b : Body
   no-parts e = rw (callLine, sym eb ∙ e) (record { answer = refl; area = refl })
 
   module _ (fields size : ℕ) (ep : b ≡ Parts fields size) where
-    module _ (values : List ℕ) (f : Step) (ef : read values f ≡ fieldsRead (fields / 4) (zeros 3) kind line from) where
-      behind-name : callLine kind line from ≡ withFields kind fields size line values f
+    module _ (values : List ℤ) (f : Step) (ef : read values f ≡ fieldsRead (fields / 4) noFields kind line from) where
+      behind-name : callLine kind line from ≡ withFields kind size line values f
       unfolding callLine
       behind-name =
           ap (withParts kind line from) (sym eb ∙ ep)
-          ∙ ap₂ (λ (v : List ℕ) (t : Step). withFields kind fields size line v t) (ap (λ (x : Read). x .area) (sym ef)) (ap (λ (x : Read). x .step) (sym ef))
+          ∙ ap₂ (λ (v : List ℤ) (t : Step). withFields kind size line v t) (ap (λ (x : Read ℤ). x .area) (sym ef)) (ap (λ (x : Read ℤ). x .step) (sym ef))
 
       pub fields-bad : (why : Reason) → f ≡ Wrong why → Extends s at (callLine kind line from) s f
       fields-bad why e = rw (behind-name, e) (record { answer = refl; area = refl })
 
       module _ (behind : ℕ) (e : f ≡ Next behind) (message : List ℕ) (g : Step) (eg : read message g ≡ messageRead (zeros messageBytes) size line behind) where
-        behind-fields : callLine kind line from ≡ endsWith (recordOf kind fields values size message) line g
+        behind-fields : callLine kind line from ≡ endsWith (recordBytes (callIn kinds kind values) (take size message)) line g
         behind-fields =
-            behind-name ∙ ap (withFields kind fields size line values) e
-            ∙ ap (withMessage kind fields values size line) (sym eg)
+            behind-name ∙ ap (withFields kind size line values) e
+            ∙ ap (withMessage (callIn kinds kind values) size line) (sym eg)
 
         pub message-bad : (why : Reason) → g ≡ Wrong why → Extends s at (callLine kind line from) s g
         message-bad why m = rw (behind-fields, m) (record { answer = refl; area = refl })
 
         module _ (end : ℕ) (m : g ≡ Next end) (p : ℕ) (ep′ : p ≡ wordStart line end) (t : Bool) (et : t ≡ isOver (drop p line)) where
-          at-end : callLine kind line from ≡ cond t (Bytes (recordOf kind fields values size message)) (Bad LeftOver)
+          at-end : callLine kind line from ≡ cond t (Bytes (recordBytes (callIn kinds kind values) (take size message))) (Bad LeftOver)
           at-end =
-              behind-fields ∙ ap (endsWith (recordOf kind fields values size message) line) m
-              ∙ ap (λ (x : Bool). cond x (Bytes (recordOf kind fields values size message)) (Bad LeftOver))
+              behind-fields ∙ ap (endsWith (recordBytes (callIn kinds kind values) (take size message)) line) m
+              ∙ ap (λ (x : Bool). cond x (Bytes (recordBytes (callIn kinds kind values) (take size message))) (Bad LeftOver))
               (ap (λ (k : ℕ). isOver (drop k line)) (sym ep′) ∙ sym et)
 
           pub left-over : t ≡ false → Extends s at (callLine kind line from) s (Wrong LeftOver)
           left-over y = rw (at-end, y) (record { answer = refl; area = refl })
 
-          pub whole-call : (after : List ℕ) (r : Step) → t ≡ true → Extends s at (Bytes (recordOf kind fields values size message)) after r
-              → Extends s at (callLine kind line from) after r
-          whole-call after r y q = rw (at-end, y) q
+          pub whole-call : (c : Call) (m′ after : List ℕ) (r : Step) → t ≡ true → c ≡ callIn kinds kind values → m′ ≡ take size message
+              → Extends s at (Bytes (recordBytes c m′)) after r → Extends s at (callLine kind line from) after r
+          whole-call c m′ after r y ec em q =
+              let same-bytes : recordBytes c m′ ≡ recordBytes (callIn kinds kind values) (take size message) = ap₂ recordBytes ec em in
+              rw (at-end, y) (rw same-bytes at q)
 
 -- a line
 module _ (s : List ℕ) (at : ℕ) (line : List ℕ) (start : ℕ) (es : start ≡ wordStart line 0) (t : Bool) (et : t ≡ isOver (drop start line)) where
@@ -170,16 +177,13 @@ module _ (s : List ℕ) (at : ℕ) (line : List ℕ) (start : ℕ) (es : start �
     known-call kind from after r e ef q = rw (call-is, e, sym ef) q
 
 pub ruleset lines = (
-  arm,
-  head-of,
   record-fits,
   record-long,
-  call-record,
+  record-never,
   no-parts,
   fields-bad,
   message-bad,
   left-over,
-  whole-call,
   blank-line,
   unknown-call,
   known-call,

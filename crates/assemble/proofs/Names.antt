@@ -6,11 +6,12 @@ use mathlib.Core.Bool.{Bool, true, false, cond}
 use mathlib.Core.List.{List, [], _∷_}
 use lib.ListN.{length, take, drop, drop-of-length-le}
 use lib.Dec.{eqb}
+use lib.IntN.{ℤ}
 use Rattle.model.proofs.Terms.{_!_, eq-eqb, ne-eqb}
 use Rattle.script.specs.Place.{Appends}
 use Rattle.script.proofs.Appending.{wrote}
 use Rattle.text.specs.Names.{template}
-use Rattle.text.proofs.Fitting.{is-line, template-short}
+use Rattle.text.proofs.Fitting.{is-front, template-short}
 use Rattle.assemble.specs.declared.name.Named.the-variants.{Kind, Nothing}
 use Rattle.assemble.specs.declared.reason.Step.{Step}
 use Rattle.assemble.specs.Words.{wordEnd, wordAt}
@@ -46,13 +47,13 @@ module _ (a b : List ℕ) where
 -- a template that was put into an area of its own
 module _ (kind : ℕ) {area after : List ℕ} {n : ℕ} (size : length area ≡ 32) (p : Appends area 0 (template kind) after n) where
   pub template-is : take n after ≡ template kind
-  template-is = is-line (let h : length (template kind) ≤ length area = omega (arith, template-short kind) in h) (wrote p) .bytes
+  template-is = is-front (let h : length (template kind) ≤ length area = omega (arith, template-short kind) in h) (wrote p) .bytes
 
   pub has-name-is : (names name w : List ℕ) (t : Bool) → names ≡ take n after → w ≡ wordAt names 0 → t ≡ same w name → t ≡ same (callName kind) name
   unfolding callName
   has-name-is names name w t en ew et = et ∙ ap (λ (l : List ℕ). same l name) (ew ∙ ap (λ (l : List ℕ). wordAt l 0) (en ∙ template-is))
 
-  pub fields-of-kind : (count : ℕ) (values names line : List ℕ) (at : ℕ) (t : ℕ) (exit : List ℕ) (s : Step) → names ≡ take n after → t ≡ wordEnd names 0
+  pub fields-of-kind : (count : ℕ) (values : List ℤ) (names line : List ℕ) (at t : ℕ) (exit : List ℤ) (s : Step) → names ≡ take n after → t ≡ wordEnd names 0
       → read exit s ≡ fieldsFrom count 0 values names t line at → read exit s ≡ fieldsRead count values kind line at
   unfolding fieldsRead
   fields-of-kind count values names line at t exit s en et e =

@@ -138,7 +138,7 @@ module _ (line : List ℕ) (at : ℕ) (r : Piece) where
 
 -- a piece behind others
 module _ (q : Bool) (before line : List ℕ) (from : ℕ) where
-  abbrev pub Whole : Read
+  abbrev pub Whole : Read ℕ
   Whole = bytesFrom q (length before) 0 before line from
 
   pub record Taking (message : List ℕ) (at n : ℕ) : Type 0 where
@@ -158,7 +158,7 @@ module _ (q : Bool) (before line : List ℕ) (from : ℕ) where
       step : Whole ≡ bytesFrom q (suc (length before - (n + 1))) n message line at
       step = t .whole ∙ ap (λ (k : ℕ). bytesFrom q k n message line at) (let s : length before - n ≡ suc (length before - (n + 1)) = omega (arith, t .size) in s)
 
-      abbrev by-piece : Piece → Read
+      abbrev by-piece : Piece → Read ℕ
       by-piece x =
           elim x [
             | Byte c next ↦ bytesFrom q (length before - (n + 1)) (suc n) (set message n c) line next

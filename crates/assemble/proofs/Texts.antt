@@ -50,7 +50,7 @@ first-line t =
     ]
 
 -- what a line does to the script that is made already
-abbrev by-line : ℕ → List ℕ → List (List ℕ) → Line → Assembly
+abbrev pub by-line : ℕ → List ℕ → List (List ℕ) → Line → Assembly
 by-line n m ls x =
     elim x [
       | Blank ↦ assembledFrom (suc n) m ls

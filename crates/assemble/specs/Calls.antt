@@ -1,8 +1,9 @@
 -- Calls by the names of the one table.
-use Prim.Native.Nat.{ℕ, zero, suc}
+use Prim.Native.Nat.{ℕ, zero, suc, _-_}
 use mathlib.Core.Bool.{Bool, true, false, cond}
 use mathlib.Core.List.{List, [], _∷_}
 use lib.Dec.{eqb}
+use Rattle.model.specs.Record.{kindCount}
 use Rattle.text.specs.Names.{template}
 use Rattle.assemble.specs.declared.name.Named.{Named}
 use Rattle.assemble.specs.declared.name.Named.the-variants.{Kind, Nothing}
@@ -23,8 +24,9 @@ abbrev pub kindFrom : ℕ → ℕ → List ℕ → Named
 kindFrom zero kind name = Nothing
 kindFrom (suc n) kind name = cond (same (callName kind) name) (Kind kind) (kindFrom n (suc kind) name)
 
+-- among all kinds
 unfoldable pub kindNamed : List ℕ → Named
-kindNamed name = kindFrom 0x40 1 name
+kindNamed name = kindFrom (kindCount - 1) 1 name
 
 -- what has to unfold for the definitions of this file to compute
 unfoldable pub computeCalls : Unit {0}

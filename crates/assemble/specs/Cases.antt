@@ -10,7 +10,7 @@ use Rattle.model.specs.Lists.{zeros, joined}
 use Rattle.model.specs.Record.{recordBytes, computeRecord}
 use Rattle.script.specs.Body.{bodyParts}
 use Rattle.text.specs.Names.{ascii, template}
-use Rattle.assemble.specs.declared.reason.Reason.the-variants.{UnknownCall, FieldMissing, NotANumber, BadMessage, LongMessage, LeftOver}
+use Rattle.assemble.specs.declared.reason.Reason.the-variants.{UnknownCall, FieldMissing, OtherField, NotANumber, BadMessage, LongMessage, LeftOver}
 use Rattle.assemble.specs.Words.{computeWords}
 use Rattle.assemble.specs.Numbers.{computeNumbers}
 use Rattle.assemble.specs.Calls.{computeCalls}
@@ -107,9 +107,14 @@ pub notANumber : assembled (ascii "tick\ncre_tsk 2147483648") ≡ WrongLine 2 No
 unfolding compute
 notANumber = refl
 
-pub anotherName : assembled (ascii "cre_tsk tskid=5") ≡ WrongLine 1 NotANumber
+pub otherField : assembled (ascii "loc_mtx tmout=1 5") ≡ WrongLine 1 OtherField
 unfolding compute
-anotherName = refl
+otherField = refl
+
+-- with a name or without one, a number of a field is refused for itself
+pub namedNumber : assembled (ascii "cre_tsk itskpri=five") ≡ WrongLine 1 NotANumber
+unfolding compute
+namedNumber = refl
 
 pub badMessage : assembled (ascii "snd_mbf 1 1 0 \"a") ≡ WrongLine 1 BadMessage
 unfolding compute

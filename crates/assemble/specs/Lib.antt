@@ -7,4 +7,5 @@ pub mod Fields
 pub mod Messages
 pub mod Lines
 pub mod Assembled
+pub mod Statements
 pub mod Cases

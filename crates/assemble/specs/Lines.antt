@@ -2,14 +2,16 @@
 use Prim.Native.Nat.{ℕ, _+_, _/_}
 use mathlib.Core.Path.{_≡_}
 use mathlib.Core.Bool.{cond}
-use mathlib.Core.List.{List, _∷_, _++_}
+use mathlib.Core.List.{List, [], _∷_}
 use lib.ListN.{length, take, drop}
+use lib.IntN.{ℤ, pos}
 use Rattle.model.specs.Sizes.{messageBytes}
-use Rattle.model.specs.Lists.{_!_, zeros}
-use Rattle.model.specs.Code.{bytes4}
+use Rattle.model.specs.Lists.{zeros}
+use Rattle.model.specs.declared.call.Call.{Call}
+use Rattle.model.specs.Record.{kinds, recordBytes}
 use Rattle.script.specs.declared.body.Body.{Body}
 use Rattle.script.specs.declared.body.Body.the-variants.{Parts, Unknown}
-use Rattle.script.specs.Body.{bodyParts}
+use Rattle.script.specs.Body.{bodyParts, callIn}
 use Rattle.script.specs.Place.{room, placed}
 use Rattle.assemble.specs.declared.reason.Reason.{Reason}
 use Rattle.assemble.specs.declared.reason.Reason.the-variants.{UnknownCall, LeftOver, LongScript}
@@ -29,32 +31,29 @@ pub data Line : Type 0 where
   Bytes : List ℕ → Line
   Bad : Reason → Line
 
--- the kind and three fields as bytes; a record begins with as many of them as its kind has fields
-abbrev pub head : ℕ → ℕ → ℕ → ℕ → List ℕ
-head kind a b c = kind ∷ bytes4 a ++ bytes4 b ++ bytes4 c
-
--- a kind's record, of the bytes that its fields and its message have
-unfoldable pub recordOf : ℕ → ℕ → List ℕ → ℕ → List ℕ → List ℕ
-recordOf kind fields values size message = take (1 + fields) (head kind (values ! 0) (values ! 1) (values ! 2)) ++ take size message
-
 -- where the message ends, nothing but a comment is left of the line
 abbrev pub endsWith : List ℕ → List ℕ → Step → Line
 endsWith bytes line (Wrong why) = Bad why
 endsWith bytes line (Next end) = cond (isOver (drop (wordStart line end) line)) (Bytes bytes) (Bad LeftOver)
 
-abbrev pub withMessage : ℕ → ℕ → List ℕ → ℕ → List ℕ → Read → Line
-withMessage kind fields values size line m = endsWith (recordOf kind fields values size (m .area)) line (m .step)
+-- the record of a call, with as much of the message's area as its kind has
+abbrev pub withMessage : Call → ℕ → List ℕ → Read ℕ → Line
+withMessage c size line m = endsWith (recordBytes c (take size (m .area))) line (m .step)
 
 -- behind the fields, the message
-abbrev pub withFields : ℕ → ℕ → ℕ → List ℕ → List ℕ → Step → Line
-withFields kind fields size line values (Wrong why) = Bad why
-withFields kind fields size line values (Next behind) = withMessage kind fields values size line (messageRead (zeros messageBytes) size line behind)
+abbrev pub withFields : ℕ → ℕ → List ℕ → List ℤ → Step → Line
+withFields kind size line values (Wrong why) = Bad why
+withFields kind size line values (Next behind) = withMessage (callIn kinds kind values) size line (messageRead (zeros messageBytes) size line behind)
+
+-- no call has more fields than three
+abbrev pub noFields : List ℤ
+noFields = pos 0 ∷ pos 0 ∷ pos 0 ∷ []
 
 abbrev pub withParts : ℕ → List ℕ → ℕ → Body → Line
 withParts kind line from Unknown = Bad UnknownCall
 withParts kind line from (Parts fields size) =
-    let f = fieldsRead (fields / 4) (zeros 3) kind line from in
-    withFields kind fields size line (f .area) (f .step)
+    let f = fieldsRead (fields / 4) noFields kind line from in
+    withFields kind size line (f .area) (f .step)
 
 -- what is behind a call's name
 unfoldable pub callLine : ℕ → List ℕ → ℕ → Line
@@ -88,5 +87,5 @@ pub record Extends (before : List ℕ) (at : ℕ) (l : Line) (after : List ℕ) 
 
 -- what has to unfold for the definitions of this file to compute
 unfoldable pub computeLines : Unit {0}
-unfolding recordOf callLine lineAt lineOf bodyParts
+unfolding callLine lineAt lineOf bodyParts callIn
 computeLines = tt

@@ -50,7 +50,7 @@ ended (End next) = Next next
 ended Bad = Wrong BadMessage
 
 -- as many bytes as there is room for, put into the message from byte n on
-abbrev pub bytesFrom : Bool → ℕ → ℕ → List ℕ → List ℕ → ℕ → Read
+abbrev pub bytesFrom : Bool → ℕ → ℕ → List ℕ → List ℕ → ℕ → Read ℕ
 bytesFrom quoted zero n message line at = read message (ended (pieceAt quoted line at))
 bytesFrom quoted (suc room) n message line at =
     elim (pieceAt quoted line at) [
@@ -60,18 +60,18 @@ bytesFrom quoted (suc room) n message line at =
     ]
 
 -- by the byte that it begins with
-abbrev pub messageBy : ℕ → List ℕ → List ℕ → ℕ → Read
+abbrev pub messageBy : ℕ → List ℕ → List ℕ → ℕ → Read ℕ
 messageBy c message line at =
     cond (eqb c 35) (read message (Next at))
     (cond (eqb c 34) (bytesFrom true (length message) 0 message line (at + 1))
     (cond (eqb c 120) (bytesFrom false (length message) 0 message line (at + 1)) (read message (Wrong BadMessage))))
 
 -- the message at a place, over what the area has
-unfoldable pub messageAt : List ℕ → List ℕ → ℕ → Read
+unfoldable pub messageAt : List ℕ → List ℕ → ℕ → Read ℕ
 messageAt message line at = cond (ltb at (length line)) (messageBy (line ! at) message line at) (read message (Next at))
 
 -- the message behind a call's fields, where the kind has one
-unfoldable pub messageRead : List ℕ → ℕ → List ℕ → ℕ → Read
+unfoldable pub messageRead : List ℕ → ℕ → List ℕ → ℕ → Read ℕ
 messageRead message size line from = cond (eqb size 0) (read message (Next from)) (messageAt message line (wordStart line from))
 
 -- what has to unfold for the definitions of this file to compute

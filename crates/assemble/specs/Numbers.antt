@@ -1,12 +1,14 @@
--- Words that are numbers: decimal digits, with a minus in front of them or not. "Fields are signed 32-bit": a number is the 32 bits of a field.
+-- Words that are numbers: decimal digits, with a minus in front of them or not. "Fields are signed 32-bit".
 use Prim.Native.Nat.{ℕ, _+_, _*_, _-_, _^_}
 use mathlib.Core.Bool.{Bool, _&&_, cond}
 use mathlib.Core.List.{List, foldl}
 use lib.ListN.{length, drop}
 use lib.Dec.{eqb, leb, ltb}
+use lib.IntN.{pos}
 use Rattle.model.specs.Lists.{_!_}
+use Rattle.model.specs.Code.{minus}
 use Rattle.assemble.specs.declared.number.Number.{Number}
-use Rattle.assemble.specs.declared.number.Number.the-variants.{Bits, Nothing}
+use Rattle.assemble.specs.declared.number.Number.the-variants.{Value, Nothing}
 
 -- the largest magnitude of a field, and what stands for no number among magnitudes
 abbrev pub largest : ℕ
@@ -29,11 +31,11 @@ magnitude word from = cond (ltb from (length word)) (foldl withDigit 0 (drop fro
 
 -- without a minus: at most 2,147,483,647
 unfoldable pub fromZeroUp : ℕ → Number
-fromZeroUp n = cond (ltb n largest) (Bits n) Nothing
+fromZeroUp n = cond (ltb n largest) (Value (pos n)) Nothing
 
 -- with a minus: at least -2,147,483,648
 unfoldable pub belowZero : ℕ → Number
-belowZero n = cond (eqb n noNumber) Nothing (cond (eqb n 0) (Bits 0) (Bits (2 ^ 32 - n)))
+belowZero n = cond (leb n largest) (Value (minus n)) Nothing
 
 -- the number that a word is from a place on
 unfoldable pub numberAt : List ℕ → ℕ → Number

@@ -1,5 +1,4 @@
 // The fields of a call.
-use super::name::TEMPLATE_BYTES;
 use super::name::is_same;
 use super::number::Number;
 use super::number::number_at;
@@ -10,58 +9,75 @@ use super::word::skip_blanks;
 use super::word::word;
 use super::word::word_end;
 use script::place::part;
+use text::names::TEMPLATE_BYTES;
 use text::names::put_template;
 ghost use Prim.Native.Nat.{_≤_};
 ghost use mathlib.Core.Path.{_≡_};
 ghost use lib.ListN.{length};
-ghost use Rattle.assemble.specs.Fields.{valuePlace, fieldAt, fieldsFrom, fieldsRead};
+ghost use Rattle.assemble.specs.Fields.{nameLength, numberFrom, fieldOf, fieldAt, fieldsFrom, fieldsRead};
 ghost use Rattle.assemble.specs.Read.{read};
 
 // No call has more fields.
 pub(crate) const FIELDS: usize = 3;
 
-// A field's bits, or what is wrong.
+// A field, or what is wrong.
 pub enum Field {
-    Value(u32),
+    Value(i32),
     Wrong(Reason),
 }
 
-// Where a word's number begins: behind the field's name and `=`, if the word begins with them.
-fn value_place(name: &[u8], word: &[u8]) -> usize
-    ensures { λ r. ⌜ r ≡ valuePlace (now (name .entry)) (now (word .entry)) ⌝ }
+// The place of a word's first `=`, or its end.
+fn name_length(word: &[u8]) -> usize
+    ensures { λ r. ⌜ r ≡ nameLength (now (word .entry)) ⌝ }
 {
-    let n = name.len();
-    if word.len() <= n {
-        return 0;
+    let mut i = 0;
+    while i < word.len() {
+        if word[i] == b'=' {
+            return i;
+        }
+        i += 1;
     }
-    if word[n] != b'=' {
-        return 0;
-    }
-    if is_same(part(word, 0, n), name) {
-        n + 1
-    } else {
-        0
+    i
+}
+
+// The number that a word is from a place on.
+fn number_from(word: &[u8], from: usize) -> Field
+    ensures { λ r. ⌜ r ≡ numberFrom (now (word .entry)) from ⌝ }
+{
+    match number_at(word, from) {
+        Number::Value(z) => Field::Value(z),
+        Number::Nothing => Field::Wrong(Reason::NotANumber),
     }
 }
 
-// The field at a place, if it has this name.
+// The field of this name that a word is.
+fn field_of(name: &[u8], word: &[u8]) -> Field
+    ensures { λ r. ⌜ r ≡ fieldOf (now (name .entry)) (now (word .entry)) ⌝ }
+{
+    let n = name_length(word);
+    if word.len() <= n {
+        return number_from(word, 0);
+    }
+    if is_same(part(word, 0, n), name) {
+        number_from(word, n + 1)
+    } else {
+        Field::Wrong(Reason::OtherField)
+    }
+}
+
+// The field of this name at a place.
 fn field_at(name: &[u8], line: &[u8], at: usize) -> Field
     ensures { λ r. ⌜ r ≡ fieldAt (now (name .entry)) (now (line .entry)) at ⌝ }
 {
     if is_over(line, at) {
         return Field::Wrong(Reason::FieldMissing);
     }
-    let value = word(line, at);
-    let n = number_at(value, value_place(name, value));
-    match n {
-        Number::Bits(z) => Field::Value(z),
-        Number::Nothing => Field::Wrong(Reason::NotANumber),
-    }
+    field_of(name, word(line, at))
 }
 
 // Some fields from a place on, by their names from a place on.
 fn fields_from(
-    values: &mut [u32],
+    values: &mut [i32],
     count: usize,
     names: &[u8],
     from: usize,
@@ -95,7 +111,7 @@ fn fields_from(
 
 // The fields of a kind's call.
 pub(crate) fn read_fields(
-    values: &mut [u32],
+    values: &mut [i32],
     count: usize,
     kind: u8,
     line: &[u8],

@@ -10,73 +10,31 @@ use super::word::is_over;
 use super::word::skip_blanks;
 use super::word::word;
 use super::word::word_end;
+use model::call::Call;
 use model::sizes::MESSAGE_BYTES;
 use script::body::Body;
 use script::body::body_parts;
-use script::field::number_bytes;
 use script::place::part;
-use script::place::put_two;
-use script::place::room;
-ghost use Prim.Native.Nat.{_≤_};
+use script::reader::call_of;
+use script::writer::Wrote;
+use script::writer::write_record;
 ghost use mathlib.Core.Path.{_≡_};
-ghost use mathlib.Core.List.{_++_};
-ghost use Rattle.assemble.specs.Lines.{Bytes, head, recordOf, callLine, lineOf, Extends};
+ghost use lib.ListN.{length};
+ghost use Rattle.model.specs.Record.{kindOf, recordBytes};
+ghost use Rattle.script.specs.Write.{messageLength};
+ghost use Rattle.assemble.specs.Lines.{Bytes, callLine, lineOf, Extends};
 
-// The kind and three fields as bytes. A record begins with as many of them as its kind has fields.
-fn head_bytes(kind: u8, a: u32, b: u32, c: u32) -> [u8; 13]
-    ensures { λ r. ⌜ r ≡ head kind a b c ⌝ }
+// A call's record, if there is room for it.
+fn write_call(script: &mut [u8], at: usize, call: Call, message: &[u8]) -> Step
+    requires { ⌜ length (now message) ≡ messageLength (kindOf call) ⌝ }
+    ensures { λ r. ⌜ Extends (now (script .entry)) at (Bytes (recordBytes call (now (message .entry)))) (now (script .exit)) r ⌝ }
 {
-    let a = number_bytes(a as usize);
-    let b = number_bytes(b as usize);
-    let c = number_bytes(c as usize);
-    [
-        kind,
-        a[0],
-        a[1],
-        a[2],
-        a[3],
-        b[0],
-        b[1],
-        b[2],
-        b[3],
-        c[0],
-        c[1],
-        c[2],
-        c[3],
-    ]
-}
-
-// A record, if there is room for it: as much of the head and of the message as the kind has.
-fn put_record(script: &mut [u8], at: usize, head: &[u8], message: &[u8]) -> Step
-    ensures { λ r. ⌜ Extends (now (script .entry)) at (Bytes (now (head .entry) ++ now (message .entry))) (now (script .exit)) r ⌝ }
-{
-    if room(script.len(), at, head.len() + message.len()) {
-        Step::Next(put_two(script, at, head, message))
-    } else {
-        Step::Wrong(Reason::LongScript)
+    match write_record(script, at, call, message) {
+        Wrote::Next(next) => Step::Next(next),
+        Wrote::NoRoom => Step::Wrong(Reason::LongScript),
+        // never: the message is as long as the kind has it
+        Wrote::WrongMessage => Step::Wrong(Reason::BadMessage),
     }
-}
-
-// A call's record, of the bytes that its kind has.
-fn put_call(
-    script: &mut [u8],
-    at: usize,
-    kind: u8,
-    fields: usize,
-    values: &[u32; FIELDS],
-    size: usize,
-    message: &[u8],
-) -> Step
-    requires { ⌜ fields ≤ 12 ⌝ }
-    ensures { λ r. ⌜ Extends (now (script .entry)) at (Bytes (recordOf kind fields (now (values .entry)) size (now (message .entry)))) (now (script .exit)) r ⌝ }
-{
-    let head = head_bytes(kind, values[0], values[1], values[2]);
-    put_record(
-        script,
-        at,
-        part(&head, 0, 1 + fields),
-        part(message, 0, size),
-    )
 }
 
 // What is behind a call's name, and then the record.
@@ -90,7 +48,7 @@ fn assemble_call(script: &mut [u8], at: usize, kind: u8, line: &[u8], from: usiz
     else {
         return Step::Wrong(Reason::UnknownCall);
     };
-    let mut values = [0u32; FIELDS];
+    let mut values = [0i32; FIELDS];
     let step = read_fields(&mut values, fields / 4, kind, line, from);
     let Step::Next(behind) = step else {
         return step;
@@ -101,7 +59,8 @@ fn assemble_call(script: &mut [u8], at: usize, kind: u8, line: &[u8], from: usiz
         return step;
     };
     if is_over(line, skip_blanks(line, end)) {
-        put_call(script, at, kind, fields, &values, size, &message)
+        let call = call_of(kind, values[0], values[1], values[2]);
+        write_call(script, at, call, part(&message, 0, size))
     } else {
         Step::Wrong(Reason::LeftOver)
     }

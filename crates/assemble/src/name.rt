@@ -2,12 +2,10 @@
 use super::word::word;
 use model::kind::TICK;
 use script::place::part;
+use text::names::TEMPLATE_BYTES;
 use text::names::put_template;
 ghost use mathlib.Core.Path.{_≡_};
 ghost use Rattle.assemble.specs.Calls.{same, callName, kindNamed};
-
-// No call's template is longer.
-pub(crate) const TEMPLATE_BYTES: usize = 32;
 
 // The kind that a word names, or none.
 pub enum Named {

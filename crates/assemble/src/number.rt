@@ -2,9 +2,9 @@
 ghost use mathlib.Core.Path.{_≡_};
 ghost use Rattle.assemble.specs.Numbers;
 
-// The 32 bits of a field, or none.
+// A field's number, or none.
 pub enum Number {
-    Bits(u32),
+    Value(i32),
     Nothing,
 }
 
@@ -53,7 +53,7 @@ fn from_zero_up(n: u32) -> Number
     ensures { λ r. ⌜ r ≡ Numbers.fromZeroUp n ⌝ }
 {
     if n < LARGEST {
-        Number::Bits(n)
+        Number::Value(n as i32)
     } else {
         Number::Nothing
     }
@@ -62,13 +62,14 @@ fn from_zero_up(n: u32) -> Number
 fn below_zero(n: u32) -> Number
     ensures { λ r. ⌜ r ≡ Numbers.belowZero n ⌝ }
 {
-    if n == NONE {
+    if LARGEST < n {
         return Number::Nothing;
     }
     if n == 0 {
-        return Number::Bits(0);
+        return Number::Value(0);
     }
-    Number::Bits(NONE - (n - 1))
+    // the largest magnitude is no i32
+    Number::Value(-1 - (n - 1) as i32)
 }
 
 // The number that a word is from a place on.

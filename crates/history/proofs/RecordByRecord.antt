@@ -24,11 +24,11 @@ read-back (b ∷ bytes) rest zero h = absurd (omega arith)
 read-back (b ∷ bytes) rest (suc n) h = ap (λ (l : List ℕ). b ∷ l) (read-back bytes rest n (omega arith))
 
 module _ (area log : List ℕ) (fits : length log ≤ length area) where
-  log-read : take (length log) (overwritten area 0 log) ≡ log
+  pub log-read : take (length log) (overwritten area 0 log) ≡ log
   unfolding overwritten over
   log-read = read-back log (drop (0 + length log) area) (length area) fits
 
-  area-long : length (overwritten area 0 log) ≡ length area
+  pub area-long : length (overwritten area 0 log) ≡ length area
   unfolding overwritten over
   area-long = rw (length-take, length-append, length-drop) (omega arith)
 
@@ -36,7 +36,7 @@ module _ (area log : List ℕ) (fits : length log ≤ length area) where
 
 -- words of a state stay so, valid or not
 
-stays-sized : (a : Areas) (c : Call) (bytes : List ℕ) → length (a .words) ≡ wordCount → FieldsFit c → Sized (step (lentIn a) c bytes .lent .kernel)
+pub stays-sized : (a : Areas) (c : Call) (bytes : List ℕ) → length (a .words) ≡ wordCount → FieldsFit c → Sized (step (lentIn a) c bytes .lent .kernel)
 unfolding refused
 stays-sized a c bytes long fit = go (valid (lentIn a)) refl
   where
@@ -59,7 +59,7 @@ module _ (a : Areas) (long : length (a .words) ≡ wordCount) where
 
 module _ (script : List ℕ) where
   -- a record takes a byte at least
-  goes-on : (at : ℕ) (c : Call) (next : Cursor) → at < length script → readRecord script at ≡ Record c next → at < next .at
+  pub goes-on : (at : ℕ) (c : Call) (next : Cursor) → at < length script → readRecord script at ≡ Record c next → at < next .at
   goes-on at c next inside e = omega (arith, was-read at (script ! at) (drop (at + 1) script) c next (sym (read-at script at inside) ∙ e) .end)
 
   -- the run has turns enough for what is left of the script; on lent areas there are as many or more

@@ -1,3 +1,4 @@
 pub mod Running
 pub mod Writing
+pub mod Turning
 pub mod Theorems

@@ -5,10 +5,11 @@ use mathlib.Core.Path.{_≡_, _∙_, refl, ap}
 use mathlib.Core.List.{List}
 use lib.ListN.{length}
 use lib.Seq.{length-sets}
-use Rattle.model.proofs.Terms.{eqb, ltb, leb, logBytes, scriptBytes, Areas, Returned, Went, isValid, withLog, overwritten, untouched, notValid, returned, lentStep, scriptOver, went, lentRecord, readRecord, recordMessage, stopBytes}
+use Rattle.model.proofs.Terms.{ℕ-discrete, eqb, ltb, leb, logBytes, scriptBytes, Areas, Returned, Went, isValid, withLog, overwritten, untouched, notValid, returned, lentStep, scriptOver, went, lentRecord, readRecord, recordMessage, stopBytes}
 use Rattle.model.specs.declared.call.Call.{Call}
 use Rattle.model.specs.declared.call.Read.the-variants.{Record, Stop}
 use Rattle.model.proofs.ListLaws.{by-test}
+use Rattle.model.proofs.ByCase.{record-no-area}
 use Rattle.message.proofs.Stores.{overwritten-sets}
 use Rattle.log_bound.proofs.Theorems.{lent-record-log-fits}
 use Rattle.run.specs.declared.Ran.{Ran}
@@ -41,3 +42,13 @@ written-fits a script at {b} {r} e =
     let w : r .written ≡ lentRecord a script at .written = ap (λ (x : Went). x .written) e in
     let l : length (b .log) ≡ length (lentRecord a script at .areas .log) = ap (λ (x : Went). length (x .areas .log)) e in
     omega (arith, w, l, record-long a script at, lent-record-log-fits a script at)
+
+-- and never more than the area for a log is to have: in one of another length nothing is written
+pub written-short : (a : Areas) (script : List ℕ) (at : ℕ) {b : Areas} {r : Ran} → ran r b ≡ lentRecord a script at → r .written ≤ logBytes
+written-short a script at {b} {r} e =
+    let w : r .written ≡ lentRecord a script at .written = ap (λ (x : Went). x .written) e in
+    go (ℕ-discrete (length (a .log)) logBytes) w
+  where
+    go : Dec (length (a .log) ≡ logBytes) → r .written ≡ lentRecord a script at .written → r .written ≤ logBytes
+    go (yes h) w = omega (arith, w, h, lent-record-log-fits a script at)
+    go (no h) w = omega (arith, w, ap (λ (x : Went). x .written) (record-no-area a script at h))

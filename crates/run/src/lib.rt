@@ -1,4 +1,6 @@
 // A script, record by record: the record at a place is read, called and logged. No whole log need be held.
+pub mod turn;
+
 use call::call;
 use model::call::Cursor;
 use model::call::Progress;

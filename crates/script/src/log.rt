@@ -6,6 +6,7 @@ use super::place::part;
 use super::place::put;
 use super::place::put_two;
 use model::call::Answer;
+use model::item;
 use model::number::MaybeTask;
 use model::number::TaskNumber;
 use model::sizes::MESSAGE_BYTES;
@@ -23,9 +24,9 @@ pub fn log_answer(area: &mut [u8], at: usize, answer: Answer) -> usize
     ensures { λ r. ⌜ Appends (now (area .entry)) at (answerBytes answer) (now (area .exit)) r ⌝ }
 {
     match answer {
-        Answer::Code(code) => put_two(area, at, &[0x80], &field_bytes(code)),
-        Answer::Waits => put(area, at, &[0x81]),
-        Answer::Exits => put(area, at, &[0x82]),
+        Answer::Code(code) => put_two(area, at, &[item::ANSWER], &field_bytes(code)),
+        Answer::Waits => put(area, at, &[item::WAITS]),
+        Answer::Exits => put(area, at, &[item::EXITS]),
     }
 }
 
@@ -33,7 +34,7 @@ pub fn log_answer(area: &mut [u8], at: usize, answer: Answer) -> usize
 pub fn log_ended(area: &mut [u8], at: usize, task: TaskNumber, code: i32) -> usize
     ensures { λ r. ⌜ Appends (now (area .entry)) at (endedBytes (endedWith (task .0) code)) (now (area .exit)) r ⌝ }
 {
-    put_two(area, at, &[0x83, task.byte()], &field_bytes(code))
+    put_two(area, at, &[item::ENDED, task.byte()], &field_bytes(code))
 }
 
 // A message in as many bytes as a send's record has, zeros behind it.
@@ -49,7 +50,7 @@ fn filled(message: &[u8]) -> [u8; MESSAGE_BYTES]
 pub fn log_message(area: &mut [u8], at: usize, task: TaskNumber, message: &[u8]) -> usize
     ensures { λ r. ⌜ Appends (now (area .entry)) at (deliveryBytes (task .0) (Message (now (message .entry)))) (now (area .exit)) r ⌝ }
 {
-    put_two(area, at, &[0x84, task.byte()], &filled(message))
+    put_two(area, at, &[item::MESSAGE, task.byte()], &filled(message))
 }
 
 // A block that a task got.
@@ -59,7 +60,7 @@ pub fn log_block(area: &mut [u8], at: usize, task: TaskNumber, block: u32) -> us
     put_two(
         area,
         at,
-        &[0x85, task.byte()],
+        &[item::BLOCK, task.byte()],
         &number_bytes(block as usize),
     )
 }
@@ -68,19 +69,19 @@ pub fn log_block(area: &mut [u8], at: usize, task: TaskNumber, block: u32) -> us
 pub fn log_runs(area: &mut [u8], at: usize, task: MaybeTask) -> usize
     ensures { λ r. ⌜ Appends (now (area .entry)) at (runsBytes (taskWord task)) (now (area .exit)) r ⌝ }
 {
-    put(area, at, &[0x8f, task.byte()])
+    put(area, at, &[item::RUNS, task.byte()])
 }
 
 // A script that stops at an offset.
 pub fn log_stop(area: &mut [u8], at: usize, offset: usize) -> usize
     ensures { λ r. ⌜ Appends (now (area .entry)) at (stopBytes offset) (now (area .exit)) r ⌝ }
 {
-    put_two(area, at, &[0x8e], &number_bytes(offset))
+    put_two(area, at, &[item::STOPS], &number_bytes(offset))
 }
 
 // A script that is too long.
 pub fn log_too_long(area: &mut [u8], at: usize) -> usize
     ensures { λ r. ⌜ Appends (now (area .entry)) at tooLongBytes (now (area .exit)) r ⌝ }
 {
-    put(area, at, &[0x8d])
+    put(area, at, &[item::TOO_LONG])
 }

@@ -72,8 +72,8 @@ pub fn message<'a>(script: &'a [u8], c: Cursor) -> &'a [u8]
     part(script, at + 1 + fields, message)
 }
 
-// A call by its kind and fields: here those of tasks, the others below; tick where no record has the kind.
-fn call_of(kind: u8, a: i32, b: i32, c: i32) -> Call
+// A call by its kind and fields, of which it takes as many as it has; tick where no record has the kind. Here those of tasks, the others below.
+pub fn call_of(kind: u8, a: i32, b: i32, c: i32) -> Call
     ensures { λ r. ⌜ r ≡ callIn kinds kind (a ∷ b ∷ c ∷ []) ⌝ }
 {
     match kind {

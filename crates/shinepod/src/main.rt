@@ -3,26 +3,17 @@ use libc::STDERR_FILENO;
 use libc::STDIN_FILENO;
 use libc::STDOUT_FILENO;
 use model::call::Cursor;
-use model::call::Progress;
 use model::sizes::LOG_BYTES;
 use model::sizes::OUTBOX_BYTES;
-use model::sizes::SCRIPT_BYTES;
 use model::sizes::STORE_BYTES;
 use run::Ran;
 use run::run_record;
+use run::turn::INPUT_BYTES;
+use run::turn::Turn;
+use run::turn::turn_of;
 use state::layout::WORDS;
 ghost use Rattle.act.specs.Held.{areas};
-ghost use Rattle.shinepod.specs.Turns.{Turned, RunsAll};
-
-// A byte more than a script may have: with it one sees that the script is too long, and the rest of the input is not read.
-const INPUT_BYTES: usize = SCRIPT_BYTES + 1;
-
-// How the program goes on: at the next record; not at all, since the script is over; or not at all, since the log could not be written.
-enum Turn {
-    On(Cursor),
-    Over,
-    Unwritten,
-}
+ghost use Rattle.run.specs.Turns.{Turned, RunsAll};
 
 // The record at a place is run, and its log written.
 fn take_turn(
@@ -36,14 +27,7 @@ fn take_turn(
     ensures { λ r. ⌜ Turned (areas (now (state .entry)) (now (store .entry)) (now (outbox .entry)) (now (log .entry))) (now (script .entry)) (at .at) (areas (now (state .exit)) (now (store .exit)) (now (outbox .exit)) (now (log .exit))) r ⌝ }
 {
     let Ran { progress, written } = run_record(state, store, outbox, log, script, at);
-    if !io::write_all(STDOUT_FILENO, &log[..written]) {
-        return Turn::Unwritten;
-    }
-    match progress {
-        Progress::Answered { answer: _, next } => Turn::On(next),
-        Progress::Over => Turn::Over,
-        Progress::NoArea => Turn::Over,
-    }
+    turn_of(progress, io::write_all(STDOUT_FILENO, &log[..written]))
 }
 
 // From the first record on: a script has no more records than bytes. Answers whether all was written.

@@ -1,6 +1,5 @@
 -- What C is told of what the other crates promise. Assumes nothing.
 use Prim.Native.Nat.{ℕ}
-use native.Mathlib.Omega.{arith}
 use mathlib.Core.Path.{_≡_, _∙_, refl, sym, ap}
 use mathlib.Core.Bool.{Bool, true, false, _&&_, cond, and-eq-true-iff}
 use mathlib.Core.List.{List}
@@ -13,12 +12,13 @@ use Rattle.model.specs.declared.call.Call.{Call}
 use Rattle.model.specs.Sizes.{storeBytes, outboxBytes}
 use Rattle.model.specs.Lists.{zeros}
 use Rattle.model.specs.Code.{E-OK, E-SYS}
-use Rattle.model.specs.Record.{Row, rowOf}
+use Rattle.model.specs.Record.{Row, kinds, rowOf}
 use Rattle.model.specs.Step.{freshLent}
 use Rattle.model.specs.Words.{wordCount, words}
 use Rattle.model.specs.Kernel.{fresh}
 use Rattle.model.specs.Lent.{Areas, Went, lentStep, lentRecord}
-use Rattle.script.specs.Body.{fieldAt}
+use Rattle.script.specs.Body.{fieldAt, made, callIn}
+use Rattle.script.proofs.Rows.{Known}
 use Rattle.state.specs.declared.Filled.{Filled}
 use Rattle.state.specs.Fresh.{Filling, freshWords}
 use Rattle.valid.specs.Check.{rightLengths}
@@ -29,9 +29,6 @@ use Rattle.call.specs.declared.Called.{Called}
 use Rattle.call.specs.Calls.{called}
 use Rattle.run.specs.declared.Ran.{Ran}
 use Rattle.run.specs.Runs.{ran}
-use Rattle.shinepod_c.specs.declared.made.Made.{Made}
-use Rattle.shinepod_c.specs.declared.made.Made.the-variants.{Call as call, Unknown}
-use Rattle.shinepod_c.specs.Made.{madeOf}
 use Rattle.shinepod_c.specs.Outcome.{Came, CameTo, came, outcomeOf, codeOf, unknownKind, answered, callOutcome, cameTo, progressOutcome, progressCode, progressNext, recordOutcome}
 use Rattle.shinepod_c.specs.Fresh.{Left, left, freshLeft}
 use Rattle.shinepod_c.specs.Shown.{areaOf, startOf, found, shownFound}
@@ -40,24 +37,20 @@ module _ (a : Areas) (kind : ℕ) (fields : List ℤ) (bytes : List ℕ) where
   abbrev ofRow : Option Row → Came
   ofRow row = elim row [ none ↦ came unknownKind E-OK 0 a | some r ↦ answered (lentStep a (r .call (fieldAt fields)) bytes) ]
 
-  no-row : (row : Option Row) → madeOf row fields ≡ Unknown → came unknownKind E-OK 0 a ≡ ofRow row
-  no-row none e = refl
-  no-row (some r) e = absurd (let z : _≡_ {A = ℕ} 0 1 = cc in omega arith)
+  pub tells-unknown : rowOf kind ≡ none → came unknownKind E-OK 0 a ≡ callOutcome a kind fields bytes
+  unfolding callOutcome
+  tells-unknown e = sym (ap ofRow e)
 
-  a-row : (row : Option Row) (x : Call) → madeOf row fields ≡ call x → answered (lentStep a x bytes) ≡ ofRow row
-  a-row none x e = absurd (let z : _≡_ {A = ℕ} 0 1 = cc in omega arith)
-  a-row (some r) x e = ap (λ (y : Call). answered (lentStep a y bytes)) (let z : _≡_ {A = Call} (r .call (fieldAt fields)) x = cc in sym z)
-
-  module _ {m : Made} (made : m ≡ madeOf (rowOf kind) fields) where
-    pub tells-unknown : m ≡ Unknown → came unknownKind E-OK 0 a ≡ callOutcome a kind fields bytes
-    unfolding callOutcome
-    tells-unknown e = no-row (rowOf kind) (sym made ∙ e)
-
-    pub tells-call : {x : Call} {r : Called} {b : Areas} {o : ℕ} {z : ℤ} → m ≡ call x → called r b ≡ lentStep a x bytes
-        → o ≡ outcomeOf (r .answer) → z ≡ codeOf (r .answer) → came o z (r .written) b ≡ callOutcome a kind fields bytes
-    unfolding callOutcome answered
-    tells-call {x} {r} {b} e g p q =
-        (λ i. came (p i) (q i) (r .written) b) ∙ ap answered g ∙ a-row (rowOf kind) x (sym made ∙ e)
+  pub tells-call : {n : ℕ} {x : Call} {r : Called} {b : Areas} {o : ℕ} {z : ℤ} → Known (rowOf kind) n → x ≡ callIn kinds kind fields
+      → called r b ≡ lentStep a x bytes → o ≡ outcomeOf (r .answer) → z ≡ codeOf (r .answer)
+      → came o z (r .written) b ≡ callOutcome a kind fields bytes
+  unfolding callOutcome answered callIn rowOf
+  tells-call {x = x} {r = r} {b = b} known e g p q =
+      let makes : x ≡ known .row .call (fieldAt fields) = e ∙ ap (λ (row : Option Row). made row fields) (known .is) in
+      (λ i. came (p i) (q i) (r .written) b)
+      ∙ ap answered g
+      ∙ ap (λ (y : Call). answered (lentStep a y bytes)) makes
+      ∙ sym (ap ofRow (known .is))
 
 module _ (a : Areas) (script : List ℕ) (at : ℕ) where
   abbrev ofWent : Went → CameTo

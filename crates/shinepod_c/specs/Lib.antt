@@ -1,4 +1,3 @@
 pub mod Outcome
 pub mod Fresh
 pub mod Shown
-pub mod Made

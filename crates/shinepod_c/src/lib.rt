@@ -1,18 +1,15 @@
 // The library for C: a handful of functions over what the other crates promise. A slice is handed over as a pointer and a length.
 // include/shinepod.h declares them and says what a caller in C answers for.
-mod made;
 mod outcome;
 mod place;
 
-use made::Made;
-use made::call_of;
 use message::next::message_at;
 use message::region::clear;
 use model::call::Cursor;
 use model::code::E_OK;
 use model::code::E_SYS;
-use model::sizes::OUTBOX_BYTES;
-use model::sizes::STORE_BYTES;
+use model::kind::BodyLength;
+use model::kind::body_length;
 use outcome::UNKNOWN_KIND;
 use outcome::code_of;
 use outcome::outcome_of;
@@ -21,23 +18,16 @@ use outcome::progress_next;
 use outcome::progress_outcome;
 use place::area_of;
 use place::start_of;
-use state::layout::WORDS;
+use script::reader::call_of;
 use valid::next::location;
+use valid::right_lengths;
 ghost use mathlib.Core.Path.{_≡_};
 ghost use mathlib.Core.List.{[], _∷_};
 ghost use Rattle.model.specs.Lent.{isValid};
-ghost use Rattle.valid.specs.Check.{rightLengths};
 ghost use Rattle.act.specs.Held.{areas};
 ghost use Rattle.shinepod_c.specs.Outcome.{came, callOutcome, cameTo, recordOutcome};
 ghost use Rattle.shinepod_c.specs.Fresh.{left, freshLeft};
 ghost use Rattle.shinepod_c.specs.Shown.{found, shownFound};
-
-// Whether a state and its areas have the lengths that they have to have.
-fn right_lengths(state: &[u32], store: &[u8], outbox: &[u8]) -> bool
-    ensures { λ r. ⌜ r ≡ rightLengths (now (state .entry)) (now (store .entry)) (now (outbox .entry)) ⌝ }
-{
-    (state.len() == WORDS) & (store.len() == STORE_BYTES) & (outbox.len() == OUTBOX_BYTES)
-}
 
 // Lent areas become the fresh state, whatever they hold; areas of other lengths are left alone.
 #[no_mangle]
@@ -70,13 +60,14 @@ pub extern "C" fn shinepod_call(
 ) -> u32
     ensures { λ r. ⌜ came r (now (code .exit)) (now (written .exit)) (areas (now (state .exit)) (now (store .exit)) (now (outbox .exit)) (now (log .exit))) ≡ callOutcome (areas (now (state .entry)) (now (store .entry)) (now (outbox .entry)) (now (log .entry))) kind (first ∷ second ∷ third ∷ []) (now (message .entry)) ⌝ }
 {
-    let call = call_of(kind, first, second, third);
-    let Made::Call(c) = call else {
+    // where the table of kinds has no body's length, no call has the kind
+    let BodyLength::Bytes(length) = body_length(kind) else {
         *code = E_OK;
         *written = 0;
         return UNKNOWN_KIND;
     };
-    let called = call::call(state, store, outbox, log, c, message);
+    let call = call_of(kind, first, second, third);
+    let called = call::call(state, store, outbox, log, call, message);
     let answer = called.answer;
     *code = code_of(answer);
     *written = called.written;

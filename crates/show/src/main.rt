@@ -1,89 +1,65 @@
 // Reads a script from standard input and writes what happens in it as lines that people can read: each record's call, and then its log.
+use libc::STDERR_FILENO;
 use libc::STDIN_FILENO;
 use libc::STDOUT_FILENO;
 use model::call::Cursor;
-use model::call::Progress;
 use model::sizes::LOG_BYTES;
 use model::sizes::OUTBOX_BYTES;
-use model::sizes::SCRIPT_BYTES;
 use model::sizes::STORE_BYTES;
 use run::Ran;
 use run::run_record;
+use run::turn::INPUT_BYTES;
+use run::turn::Turn;
+use run::turn::turn_of;
 use state::layout::WORDS;
-use text::item::item_length;
-use text::item::item_line;
-use text::place::LINE_BYTES;
-use text::place::place_line;
-ghost use Prim.Native.Nat.{_+_};
+use text::turn::TEXT_BYTES;
+use text::turn::turn_text;
 ghost use mathlib.Core.Path.{_≡_};
-ghost use Rattle.model.specs.Lent.{lentRecord};
+ghost use lib.ListN.{length};
+ghost use Rattle.text.specs.Turn.{textBytes};
 ghost use Rattle.act.specs.Held.{areas};
+ghost use Rattle.run.specs.Turns.{RunsAll};
+ghost use Rattle.show.specs.Shown.{ShowsTurn};
 
-// A byte more than a script may have: with it one sees that the script is too long, and the rest of the input is not read.
-const INPUT_BYTES: usize = SCRIPT_BYTES + 1;
-
-// The line of what stands at a place of the script. False where it can't be written.
-fn show_place(script: &[u8], at: Cursor) -> bool {
-    let mut line = [0u8; LINE_BYTES];
-    let n = place_line(&mut line, script, at.at);
-    io::write_all(STDOUT_FILENO, &line[..n])
-}
-
-// The line of the item that bytes of a log begin with. False where it can't be written.
-fn show_item(item: &[u8]) -> bool {
-    let mut line = [0u8; LINE_BYTES];
-    let n = item_line(&mut line, item);
-    io::write_all(STDOUT_FILENO, &line[..n])
-}
-
-// A record's log, item by item. False where a line can't be written.
-fn show_log(log: &[u8]) -> bool {
-    let mut at = 0;
-    while at < log.len() {
-        if !show_item(&log[at..]) {
-            return false;
-        }
-        at += item_length(log[at]);
-    }
-    true
-}
-
-// The record at a place is shown and run, and then its log is shown. Where that fails, or where the place has no record, the script is over.
-fn turn(
+// The record at a place is run, and what happens is written: the record's line, and the lines of its log.
+fn take_turn(
     state: &mut [u32],
     store: &mut [u8],
     outbox: &mut [u8],
     log: &mut [u8],
+    text: &mut [u8],
     script: &[u8],
     at: Cursor,
-) -> Progress
-    ensures { λ _. ⌜ areas (now (state .exit)) (now (store .exit)) (now (outbox .exit)) (now (log .exit)) ≡ lentRecord (areas (now (state .entry)) (now (store .entry)) (now (outbox .entry)) (now (log .entry))) (now (script .entry)) (at .at) .areas ⌝ }
+) -> Turn
+    requires { ⌜ length (now text) ≡ textBytes ⌝ }
+    ensures { λ r. ⌜ ShowsTurn (areas (now (state .entry)) (now (store .entry)) (now (outbox .entry)) (now (log .entry))) (now (script .entry)) (at .at) (areas (now (state .exit)) (now (store .exit)) (now (outbox .exit)) (now (log .exit))) (now (text .exit)) r ⌝ }
 {
-    let shown = show_place(script, at);
     let Ran { progress, written } = run_record(state, store, outbox, log, script, at);
-    let Progress::Answered { answer, next } = progress else {
-        return progress;
-    };
-    if !shown {
-        return Progress::Over;
-    }
-    if show_log(&log[..written]) {
-        Progress::Answered { answer, next }
-    } else {
-        Progress::Over
-    }
+    let n = turn_text(text, script, at.at, progress, &log[..written]);
+    turn_of(progress, io::write_all(STDOUT_FILENO, &text[..n]))
 }
 
-// From the first record on: a script has no more records than bytes, and the end is a place, too.
-fn run_all(state: &mut [u32], store: &mut [u8], outbox: &mut [u8], log: &mut [u8], script: &[u8]) {
+// From the first record on: a script has no more records than bytes, and the end is a place, too. Answers whether all was written.
+fn run_all(
+    state: &mut [u32],
+    store: &mut [u8],
+    outbox: &mut [u8],
+    log: &mut [u8],
+    text: &mut [u8],
+    script: &[u8],
+) -> bool
+    requires { ⌜ length (now text) ≡ textBytes ⌝ }
+    ensures { λ r. ⌜ RunsAll (areas (now (state .entry)) (now (store .entry)) (now (outbox .entry)) (now (log .entry))) (now (script .entry)) (areas (now (state .exit)) (now (store .exit)) (now (outbox .exit)) (now (log .exit))) r ⌝ }
+{
     let mut at = Cursor { at: 0 };
     for _ in 0..INPUT_BYTES {
-        let progress = turn(state, store, outbox, log, script, at);
-        let Progress::Answered { answer: _, next } = progress else {
-            return;
-        };
-        at = next;
+        match take_turn(state, store, outbox, log, text, script, at) {
+            Turn::On(next) => at = next,
+            Turn::Over => return true,
+            Turn::Unwritten => return false,
+        }
     }
+    true
 }
 
 fn main() {
@@ -91,8 +67,19 @@ fn main() {
     let mut store = [0u8; STORE_BYTES];
     let mut outbox = [0u8; OUTBOX_BYTES];
     let mut log = [0u8; LOG_BYTES];
+    let mut text = [0u8; TEXT_BYTES];
     let mut input = [0u8; INPUT_BYTES];
     state::fresh(&mut state);
     let n = io::read_full(STDIN_FILENO, &mut input);
-    run_all(&mut state, &mut store, &mut outbox, &mut log, &input[..n]);
+    let written = run_all(
+        &mut state,
+        &mut store,
+        &mut outbox,
+        &mut log,
+        &mut text,
+        &input[..n],
+    );
+    if !written {
+        io::write_all(STDERR_FILENO, b"show: the lines could not be written\n");
+    }
 }

@@ -12,10 +12,11 @@ use Rattle.model.specs.World.{Delivery, Nothing, Message, Block, Ended}
 use Rattle.model.specs.Log.{answerBytes, deliveryBytes, endedBytes, runsBytes, outcomeLog}
 use Rattle.script.specs.Item.{endedWith}
 use Rattle.text.specs.Item.{answerText, endedText, receivedText, blockText, runsText, taskText, itemBytes, itemText, itemLine}
-use Rattle.text.specs.Whole.{itemLines, logText, deliveryLine, endedLines, outcomeText, LogIsItsItems}
+use Rattle.text.specs.Turn.{itemLines, logText}
+use Rattle.text.specs.Whole.{deliveryLine, endedLines, outcomeText, LogIsItsItems}
 
 -- as many turns as there are bytes are enough
-enough : (n m : ℕ) (l : List ℕ) → length l ≤ n → length l ≤ m → itemLines n l ≡ itemLines m l
+pub enough : (n m : ℕ) (l : List ℕ) → length l ≤ n → length l ≤ m → itemLines n l ≡ itemLines m l
 enough zero zero l p q = refl
 enough zero (suc m) [] p q = refl
 enough zero (suc m) (x ∷ l) p q = absurd (omega arith)

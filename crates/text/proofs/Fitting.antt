@@ -21,11 +21,11 @@ use Rattle.text.specs.Numbers.{digit, digitsOf, decimal, signedDecimal, 
 use Rattle.text.specs.Quoted.{plain, shownByte, before, trimmed, quoted}
 use Rattle.text.specs.Place.{wordValue, letter, withValues, firstWord, messageText, callText, unknownText, cutText, hereText, tooLongText, placeLine}
 use Rattle.text.specs.Item.{part, answerText, taskText, endedText, receivedText, blockText, runsText, Form, forms, noForm, formIn, itemBytes, itemText, itemLine}
-use Rattle.text.specs.Line.{lineBytes, IsLine}
+use Rattle.text.specs.Line.{lineBytes, IsFront}
 
 -- a text put at the front of an area that is long enough
-pub is-line : {area text after : List ℕ} {n : ℕ} → length text ≤ length area → Wrote area 0 text after n → IsLine after n text
-is-line {area} {text} {after} {n} h w =
+pub is-front : {area text after : List ℕ} {n : ℕ} → length text ≤ length area → Wrote area 0 text after n → IsFront after n text
+is-front {area} {text} {after} {n} h w =
     let fits : 0 + length text ≤ length area = omega arith in
     let p = w .all fits in
     let e : after ≡ over area 0 text = p .area ∙ placed-room area 0 text fits in
@@ -53,14 +53,14 @@ unfolding template
 template-short kind = leb-true (length (template kind)) 32 (named-all (λ t. leb (length t) 32) templates kind refl refl)
 
 -- a front part of a line
-module _ {area text : List ℕ} {n k : ℕ} (l : IsLine area n text) (h : k ≤ length (take n area)) where
+module _ {area text : List ℕ} {n k : ℕ} (l : IsFront area n text) (h : k ≤ length (take n area)) where
   within : k ≤ n
   within = omega (arith, length-take n area)
 
   pub word-inside : k ≤ length area
   word-inside = omega (arith, within, l .inside)
 
-pub word-of : {area text : List ℕ} {n k : ℕ} → IsLine area n text → take k (take n area) ≡ firstWord (take n area) → k ≤ length (take n area)
+pub word-of : {area text : List ℕ} {n k : ℕ} → IsFront area n text → take k (take n area) ≡ firstWord (take n area) → k ≤ length (take n area)
     → take k area ≡ firstWord text
 word-of {area} {text} {n} {k} l e h = sym (take-take k n area (within l h)) ∙ e ∙ ap firstWord (l .bytes)
 
@@ -72,7 +72,7 @@ digits-short (suc most) n =
     elim (ltb n 10) as (λ b. length (cond b (digit n ∷ []) (digitsOf most (n / 10) ++ digit (n % 10) ∷ [])) ≤ suc most)
     [ true ↦ omega arith | false ↦ omega (arith, length-append (digitsOf most (n / 10)) (digit (n % 10) ∷ []), digits-short most (n / 10)) ]
 
-decimal-short : (n : ℕ) → length (decimal n) ≤ 20
+pub decimal-short : (n : ℕ) → length (decimal n) ≤ 20
 unfolding decimal
 decimal-short n = digits-short 20 n
 

@@ -21,7 +21,7 @@ unfolding hereText
 here-end script at h p = rw (drop-of-length-le script {i = at} h) (wrote p)
 
 -- what follows a place, as a part of the script
-rest : (script : List ℕ) (at : ℕ) → take (length script - at) (drop at script) ≡ drop at script
+pub rest : (script : List ℕ) (at : ℕ) → take (length script - at) (drop at script) ≡ drop at script
 rest script at = take-all (length script - at) (drop at script) (omega (arith, length-drop at script))
 
 module _ (script : List ℕ) (at : ℕ) (inside : at < length script) where
@@ -51,13 +51,13 @@ module _ (script : List ℕ) (at : ℕ) (inside : at < length script) where
     here-call {n} e h p m q = rw here (rw (e, hereText, le-leb n (length body) h) (wrote-more p (rw (sym (ap messageHere here) ∙ sym m) q)))
 
 -- the whole line, by the length of the script
-module _ {line after : List ℕ} {next : ℕ} (script : List ℕ) (at : ℕ) where
-  pub too-long : scriptBytes < length script → Wrote line 0 tooLongText after next → Wrote line 0 (placeLine script at) after next
+module _ {line after : List ℕ} {l next : ℕ} (script : List ℕ) (at : ℕ) where
+  pub too-long : scriptBytes < length script → Wrote line l tooLongText after next → Wrote line l (placeLine script at) after next
   unfolding placeLine
   too-long h p = rw (lt-ltb scriptBytes (length script) h, placeLine) p
 
-  pub not-too-long : {a b c : List ℕ} {i j k : ℕ} → length script ≤ scriptBytes → Appends line 0 (decimal at) a i → Appends a i (ascii ": ") b j
+  pub not-too-long : {a b c : List ℕ} {i j k : ℕ} → length script ≤ scriptBytes → Appends line l (decimal at) a i → Appends a i (ascii ": ") b j
       → Wrote b j (hereText (drop at script)) c k
-      → Appends c k (ascii "\n") after next → Wrote line 0 (placeLine script at) after next
+      → Appends c k (ascii "\n") after next → Wrote line l (placeLine script at) after next
   unfolding placeLine
   not-too-long h p q r s = rw (le-ltb scriptBytes (length script) h, placeLine) (wrote-more (wrote-more (wrote-more (wrote p) (wrote q)) r) (wrote s))

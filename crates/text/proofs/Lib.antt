@@ -7,4 +7,5 @@ pub mod Loops
 pub mod Here
 pub mod Fitting
 pub mod Cutting
+pub mod Logs
 pub mod Examples

@@ -17,7 +17,7 @@ use Rattle.text.specs.Place.{wordValue, letter, wordAfter, withValues, f
 abbrev pub Left : List ℕ → ℕ → List ℕ → List ℕ → ℕ → List ℕ → Type 0
 Left line₀ at whole line next rest = (after : List ℕ) (n : ℕ) → Wrote line next rest after n → Wrote line₀ at whole after n
 
-left-more : {line₀ whole line mid xs rest : List ℕ} {at next i : ℕ} → Left line₀ at whole line next (xs ++ rest) → Wrote line next xs mid i
+pub left-more : {line₀ whole line mid xs rest : List ℕ} {at next i : ℕ} → Left line₀ at whole line next (xs ++ rest) → Wrote line next xs mid i
     → Left line₀ at whole mid i rest
 left-more l p = λ after n w. l after n (wrote-more p w)
 

@@ -11,7 +11,8 @@ use borrow.Author.Tests.{ltb-true}
 use Rattle.script.specs.Place.{Appends, Wrote}
 use Rattle.script.proofs.Appending.{wrote, wrote-more}
 use Rattle.text.specs.Names.{ascii, errorName}
-use Rattle.text.specs.Numbers.{size, decimal, signedDecimal, codeText}
+use Rattle.text.specs.Names.{size}
+use Rattle.text.specs.Numbers.{decimal, signedDecimal, codeText}
 
 pub size-below : (z : ℤ) → ltZ z (pos 0) ≡ true → mag z + 1 ≡ size z
 size-below (pos n) e = absurd (not-suc-le-zero (ltb-true n 0 e))

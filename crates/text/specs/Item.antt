@@ -1,5 +1,5 @@
 -- The line of an item of a log, from the bytes that begin with it.
-use Prim.Native.Nat.{ℕ}
+use Prim.Native.Nat.{ℕ, _+_}
 use mathlib.Core.Bool.{true, false}
 use mathlib.Core.List.{List, [], _∷_, _++_}
 use lib.ListN.{take, drop}
@@ -51,7 +51,7 @@ forms =
     ∷ form 0x81 1 (λ item. ascii "waits")
     ∷ form 0x82 1 (λ item. ascii "exits")
     ∷ form 0x83 6 endedText
-    ∷ form 0x84 34 receivedText
+    ∷ form 0x84 (2 + messageBytes) receivedText
     ∷ form 0x85 6 blockText
     ∷ form 0x8F 2 runsText
     ∷ []

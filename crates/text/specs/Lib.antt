@@ -4,4 +4,5 @@ pub mod Quoted
 pub mod Place
 pub mod Item
 pub mod Line
+pub mod Turn
 pub mod Whole

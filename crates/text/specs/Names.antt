@@ -1,10 +1,12 @@
 -- The names that people read and write: one table for the program that shows a script and for the one that assembles it.
-use Prim.Native.Nat.{ℕ}
+use Prim.Native.Nat.{ℕ, suc}
 use Prim.Native.Char.{code}
 use Prim.Native.String.{String, [] as empty, _∷_ as _then_}
 use mathlib.Core.Bool.{true, false}
 use mathlib.Core.List.{List, [], _∷_}
+use lib.IntN.{ℤ, pos, negsuc}
 use lib.Dec.{eqb}
+use Rattle.model.specs.Code.{E-SYS, E-RSATR, E-PAR, E-ID, E-CTX, E-ILUSE, E-NOMEM, E-LIMIT, E-OBJ, E-NOEXS, E-TMOUT, E-DLT}
 
 -- a text as its bytes
 abbrev pub ascii : String → List ℕ
@@ -43,21 +45,26 @@ templates =
 unfoldable pub template : ℕ → List ℕ
 template kind = ascii (named kind templates)
 
--- The error codes of document 01's table and of ended waits, without their sign; with a space in front.
+-- a number without its sign
+abbrev pub size : ℤ → ℕ
+size (pos n) = n
+size (negsuc n) = suc n
+
+-- Every error code of `model`, without its sign; with a space in front.
 abbrev pub errors : List (ℕ × String)
 errors =
-    (5, " E_SYS")
-    ∷ (11, " E_RSATR")
-    ∷ (17, " E_PAR")
-    ∷ (18, " E_ID")
-    ∷ (25, " E_CTX")
-    ∷ (28, " E_ILUSE")
-    ∷ (33, " E_NOMEM")
-    ∷ (34, " E_LIMIT")
-    ∷ (41, " E_OBJ")
-    ∷ (42, " E_NOEXS")
-    ∷ (50, " E_TMOUT")
-    ∷ (51, " E_DLT")
+    (size E-SYS, " E_SYS")
+    ∷ (size E-RSATR, " E_RSATR")
+    ∷ (size E-PAR, " E_PAR")
+    ∷ (size E-ID, " E_ID")
+    ∷ (size E-CTX, " E_CTX")
+    ∷ (size E-ILUSE, " E_ILUSE")
+    ∷ (size E-NOMEM, " E_NOMEM")
+    ∷ (size E-LIMIT, " E_LIMIT")
+    ∷ (size E-OBJ, " E_OBJ")
+    ∷ (size E-NOEXS, " E_NOEXS")
+    ∷ (size E-TMOUT, " E_TMOUT")
+    ∷ (size E-DLT, " E_DLT")
     ∷ []
 
 unfoldable pub errorName : ℕ → List ℕ

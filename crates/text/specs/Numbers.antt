@@ -19,11 +19,6 @@ digitsOf (suc most) n = cond (ltb n 10) (digit n ∷ []) (digitsOf most (n / 10)
 unfoldable pub decimal : ℕ → List ℕ
 decimal n = digitsOf 20 n
 
--- a number without its sign
-abbrev pub size : ℤ → ℕ
-size (pos n) = n
-size (negsuc n) = suc n
-
 -- with a minus in front where it is below 0
 unfoldable pub signedDecimal : ℤ → List ℕ
 signedDecimal (pos n) = decimal n

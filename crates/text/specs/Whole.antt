@@ -1,9 +1,9 @@
 -- The text of a whole script: at each place its line, and behind a record's line those of its log.
-use Prim.Native.Nat.{ℕ, zero, suc, _-_}
+use Prim.Native.Nat.{ℕ, zero, suc}
 use mathlib.Core.Bool.{true, false}
 use mathlib.Core.Path.{_≡_}
 use mathlib.Core.List.{List, [], _∷_, _++_, map}
-use lib.ListN.{length, drop}
+use lib.ListN.{length}
 use lib.Dec.{ltb}
 use Rattle.model.specs.declared.call.Read.the-variants.{Record, Stop}
 use Rattle.model.specs.Sizes.{scriptBytes}
@@ -17,18 +17,10 @@ use Rattle.script.specs.Item.{endedWith}
 use Rattle.text.specs.Numbers.{computeNumbers}
 use Rattle.text.specs.Quoted.{computeQuoted}
 use Rattle.text.specs.Place.{placeLine, computePlace}
-use Rattle.text.specs.Item.{itemBytes, itemLine, computeItem}
+use Rattle.text.specs.Item.{itemLine, computeItem}
+use Rattle.text.specs.Turn.{logText, computeTurn}
 
--- the lines of a log's items, of at most n; an item has at least its tag
-abbrev pub itemLines : ℕ → List ℕ → List ℕ
-itemLines zero log = []
-itemLines (suc n) [] = []
-itemLines (suc n) (tag ∷ rest) = itemLine (tag ∷ rest) ++ itemLines n (drop (itemBytes tag - 1) rest)
-
-unfoldable pub logText : List ℕ → List ℕ
-logText log = itemLines (length log) log
-
--- The same from an outcome: the answer, what was delivered, each ended wait, and who runs.
+-- The lines of an outcome: the answer, what was delivered, each ended wait, and who runs.
 unfoldable pub deliveryLine : ℕ → Delivery → List ℕ
 deliveryLine t Nothing = []
 deliveryLine t (Message m) = itemLine (deliveryBytes t (Message m))
@@ -56,7 +48,7 @@ textFrom (suc n) x script at =
           placeLine script at ++ logText (outcomeLog (running (x .kernel)) o) ++ textFrom n (o .lent) script (next .at)
     ]
 
--- from the fresh state; the last line is the end's or the stop's
+-- from the fresh state; the last line is the end's or the stop's, or says that the script is too long, and is the only one then
 unfoldable pub scriptText : List ℕ → List ℕ
 unfolding compute
 scriptText script =
@@ -64,5 +56,5 @@ scriptText script =
 
 -- what has to unfold for the definitions of this file to compute
 unfoldable pub computeWhole : Unit {0}
-unfolding compute computeNumbers computeQuoted computePlace computeItem logText scriptText
+unfolding compute computeNumbers computeQuoted computePlace computeItem computeTurn scriptText
 computeWhole = tt

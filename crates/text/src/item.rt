@@ -4,15 +4,14 @@ use super::number::put_number;
 use super::number::put_signed;
 use super::quoted::put_quoted;
 use model::bytes::byte;
+use model::item;
 use model::sizes::MESSAGE_BYTES;
 use script::field::field;
 use script::place::part;
 use script::place::put;
 ghost use mathlib.Core.Path.{_≡_};
-ghost use lib.ListN.{length};
 ghost use Rattle.script.specs.Place.{Wrote};
 ghost use Rattle.text.specs.Item.{answerText, taskText, endedText, receivedText, blockText, runsText, itemBytes, itemText, itemLine};
-ghost use Rattle.text.specs.Line.{lineBytes, IsLine};
 
 fn put_answer(line: &mut [u8], at: usize, item: &[u8]) -> usize
     ensures { λ r. ⌜ Wrote (now (line .entry)) at (answerText (now (item .entry))) (now (line .exit)) r ⌝ }
@@ -68,39 +67,38 @@ fn put_item(line: &mut [u8], at: usize, item: &[u8]) -> usize
 {
     let tag = byte(item, 0);
     match tag {
-        0x80 => put_answer(line, at, item),
-        0x81 => put(line, at, b"waits"),
-        0x82 => put(line, at, b"exits"),
-        0x83 => put_ended(line, at, item),
-        0x84 => put_received(line, at, item),
-        0x85 => put_block(line, at, item),
-        0x8f => put_runs(line, at, item),
+        item::ANSWER => put_answer(line, at, item),
+        item::WAITS => put(line, at, b"waits"),
+        item::EXITS => put(line, at, b"exits"),
+        item::ENDED => put_ended(line, at, item),
+        item::MESSAGE => put_received(line, at, item),
+        item::BLOCK => put_block(line, at, item),
+        item::RUNS => put_runs(line, at, item),
         _ => put(line, at, b"no item"),
     }
 }
 
 // How many bytes an item has, by its tag.
-pub fn item_length(tag: u8) -> usize
+pub(crate) fn item_length(tag: u8) -> usize
     ensures { λ r. ⌜ r ≡ itemBytes tag ⌝ }
 {
     match tag {
-        0x80 => 5,
-        0x81 => 1,
-        0x82 => 1,
-        0x83 => 6,
-        0x84 => MESSAGE_BYTES + 2,
-        0x85 => 6,
-        0x8f => 2,
+        item::ANSWER => 5,
+        item::WAITS => 1,
+        item::EXITS => 1,
+        item::ENDED => 6,
+        item::MESSAGE => MESSAGE_BYTES + 2,
+        item::BLOCK => 6,
+        item::RUNS => 2,
         _ => 1,
     }
 }
 
-// The line of the item that bytes of a log begin with, at the front of the area.
-pub fn item_line(line: &mut [u8], item: &[u8]) -> usize
-    requires { ⌜ length (now line) ≡ lineBytes ⌝ }
-    ensures { λ r. ⌜ IsLine (now (line .exit)) r (itemLine (now (item .entry))) ⌝ }
+// The line of the item that bytes of a log begin with.
+pub(crate) fn put_item_line(line: &mut [u8], at: usize, item: &[u8]) -> usize
+    ensures { λ r. ⌜ Wrote (now (line .entry)) at (itemLine (now (item .entry))) (now (line .exit)) r ⌝ }
 {
-    let next = put(line, 0, b"  ");
+    let next = put(line, at, b"  ");
     let next = put_item(line, next, item);
     put(line, next, b"\n")
 }

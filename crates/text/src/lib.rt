@@ -4,3 +4,4 @@ pub mod names;
 pub mod number;
 pub mod place;
 pub mod quoted;
+pub mod turn;

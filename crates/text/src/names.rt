@@ -4,6 +4,9 @@ use script::place::put;
 ghost use Rattle.script.specs.Place.{Appends};
 ghost use Rattle.text.specs.Names.{template, errorName};
 
+// No template is longer.
+pub const TEMPLATE_BYTES: usize = 32;
+
 // A kind's call and its fields by the manual's names, a space between them; nothing for a kind that no record has.
 pub fn put_template(line: &mut [u8], at: usize, kind: u8) -> usize
     ensures { λ r. ⌜ Appends (now (line .entry)) at (template kind) (now (line .exit)) r ⌝ }

@@ -4,6 +4,7 @@ use script::place::put;
 ghost use Prim.Native.Nat.{_<_};
 ghost use mathlib.Core.Path.{_≡_};
 ghost use Rattle.script.specs.Place.{Appends, Wrote};
+ghost use Rattle.text.specs.Names.{size};
 ghost use Rattle.text.specs.Numbers;
 
 pub fn put_number(line: &mut [u8], at: usize, n: usize) -> usize
@@ -16,7 +17,7 @@ pub fn put_number(line: &mut [u8], at: usize, n: usize) -> usize
 
 // A number without its sign.
 fn size(z: i32) -> u32
-    ensures { λ r. ⌜ r ≡ Numbers.size z ⌝ }
+    ensures { λ r. ⌜ r ≡ size z ⌝ }
 {
     if z < 0 { (-1 - z) as u32 + 1 } else { z as u32 }
 }

@@ -1,4 +1,5 @@
 // The line of what stands at a place of a script.
+use super::names::TEMPLATE_BYTES;
 use super::names::put_template;
 use super::number::put_hex;
 use super::number::put_number;
@@ -17,13 +18,6 @@ ghost use lib.ListN.{length, take, drop};
 ghost use Rattle.script.specs.Place.{Wrote};
 ghost use Rattle.text.specs.Names.{template};
 ghost use Rattle.text.specs.Place.{wordValue, letter, withValues, firstWord, messageText, unknownText, cutText, hereText, tooLongText, placeLine};
-ghost use Rattle.text.specs.Line.{lineBytes, IsLine};
-
-// No line is longer.
-pub const LINE_BYTES: usize = 256;
-
-// No template is longer.
-const TEMPLATE_BYTES: usize = 32;
 
 // What follows a word of a template: behind a field's name its number.
 fn put_value(line: &mut [u8], at: usize, body: &[u8], word: usize) -> usize
@@ -156,15 +150,14 @@ fn put_too_long(line: &mut [u8], at: usize) -> usize
     put(line, next, b" bytes\n")
 }
 
-// The line of a place, at the front of the area.
-pub fn place_line(line: &mut [u8], script: &[u8], place: usize) -> usize
-    requires { ⌜ length (now line) ≡ lineBytes ⌝ }
-    ensures { λ r. ⌜ IsLine (now (line .exit)) r (placeLine (now (script .entry)) place) ⌝ }
+// The line of a place.
+pub(crate) fn put_place_line(line: &mut [u8], at: usize, script: &[u8], place: usize) -> usize
+    ensures { λ r. ⌜ Wrote (now (line .entry)) at (placeLine (now (script .entry)) place) (now (line .exit)) r ⌝ }
 {
     if SCRIPT_BYTES < script.len() {
-        return put_too_long(line, 0);
+        return put_too_long(line, at);
     }
-    let next = put_number(line, 0, place);
+    let next = put_number(line, at, place);
     let next = put(line, next, b": ");
     let next = put_here(line, next, script, place);
     put(line, next, b"\n")

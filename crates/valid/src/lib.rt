@@ -26,7 +26,7 @@ ghost use Rattle.model.specs.Lent.{lent, isValid};
 ghost use Rattle.valid.specs.Check.{rightLengths, noneZero, clauses};
 
 // "state not sound, or an area not exactly" as long as it has to be: the lengths come first, so that whatever is lent can be read.
-fn right_lengths(state: &[u32], store: &[u8], outbox: &[u8]) -> bool
+pub fn right_lengths(state: &[u32], store: &[u8], outbox: &[u8]) -> bool
     ensures { λ r. ⌜ r ≡ rightLengths (now (state .entry)) (now (store .entry)) (now (outbox .entry)) ⌝ }
 {
     (state.len() == WORDS) & (store.len() == STORE_BYTES) & (outbox.len() == OUTBOX_BYTES)

@@ -1,11 +1,11 @@
--- `run_all` meets its contract: after each turn what is left to do comes to the whole script. Assumes nothing.
+-- `run_all` meets its contract: after each turn, what more turns leave is what they leave from there on. Assumes nothing.
 use Prim.Native.Nat.{suc, _-_}
 use mathlib.Core.Path.{_≡_}
 use lib.ListN.{length}
 use borrow.Author.Needs.{needs}
 use Rattle.model.specs.Sizes.{scriptBytes}
 use Rattle.act.specs.Held.{areas}
-use Rattle.shinepod.proofs.Turning.{Left, goes-on, ends, all-done, unwritten}
+use Rattle.run.proofs.Turning.{Left, at-first, goes-on, ends, unwritten, all-done}
 use Rattle.shinepod.proofs.run_all.Statement.{statement}
 use Rattle.shinepod.proofs.run_all.Tie as tie
 
@@ -17,18 +17,26 @@ Inv-loop state₀ store₀ outbox₀ log₀ script at₀ counter₀ state store 
 abbrev μ-loop : tie.MeasureT-loop
 μ-loop state₀ store₀ outbox₀ log₀ script at₀ counter₀ state store outbox log at counter = suc scriptBytes - counter
 
+loop-holds : tie.Need-loop-holds Inv-loop μ-loop
+loop-holds c = (search needs, at-first _ _)
+
 returns : tie.Need-returns Inv-loop μ-loop
 returns c =
-    let l = c .before .before .before .before .before .before .before .before .before .before .before .before .before .before .before .before .loop in
-    ends _ _ _ _ (l .counter) (l .inv .1) (c .before .before .before .before .before .before .before .before .before .before .before .before .before .before .before .loop-test .taken) (c .before .before .before .before .before .before .before .before .before .before .take-turn .ensures) (c .enum-told .given .1)
+    let turn = c .before .before .before .before .before .before .before .before .before .before in
+    let l = turn .before .before .before .before .before .before .loop in
+    ends _ _ _ _ (l .counter) (l .inv .1) (turn .take-turn .ensures) (c .enum-told .given .1)
 
 returns-2 : tie.Need-returns-2 Inv-loop μ-loop
-returns-2 c = unwritten _ _ _
+returns-2 c =
+    let turn = c .before .before .before .before .before .before .before .before .before .before in
+    let l = turn .before .before .before .before .before .before .loop in
+    unwritten _ _ _ _ (l .counter) (l .inv .1) (turn .take-turn .ensures)
 
 loop-again : tie.Need-loop-again Inv-loop μ-loop
 loop-again c =
-    let l = c .before .before .before .before .before .before .before .before .before .before .before .before .before .before .before .before .before .loop in
-    (search needs, goes-on _ _ _ _ (l .counter) (l .inv .1) (c .before .before .before .before .before .before .before .before .before .before .before .before .before .before .before .before .loop-test .taken) (c .before .before .before .before .before .before .before .before .before .before .before .take-turn .ensures) _ (c .before .next .given .1))
+    let turn = c .before .before .before .before .before .before .before .before .before .before .before in
+    let l = turn .before .before .before .before .before .before .loop in
+    (search needs, goes-on _ _ _ _ (l .counter) (l .inv .1) (turn .take-turn .ensures) _ (c .before .next .given .1))
 
 returns-3 : tie.Need-returns-3 Inv-loop μ-loop
 returns-3 c = let l = c .before .loop in all-done _ _ _ _ (l .counter) (l .inv .1) (c .loop-test .left)
@@ -36,7 +44,7 @@ returns-3 c = let l = c .before .loop in all-done _ _ _ _ (l .counter) (l .inv .
 pub run-all-spec : {M : Type 1} → statement M
 run-all-spec =
     tie.close
-    (tie.spec Inv-loop μ-loop (λ c. search needs) (λ c κs. search needs) (λ c. search needs) (λ c. search needs) (λ c. search needs)
+    (tie.spec Inv-loop μ-loop loop-holds (λ c κs. search needs) (λ c. search needs) (λ c. search needs) (λ c. search needs)
     (λ c. search needs) (λ c. search needs) (λ c. search needs) returns (λ c. search needs) (λ c. search needs) (λ c. search needs)
     (λ c. search needs) (λ c. search needs) returns-2 (λ c. search needs) (λ c. search needs) loop-again (λ c. search needs) (λ c. search needs)
     (λ c. search needs) (λ c. search needs) returns-3)

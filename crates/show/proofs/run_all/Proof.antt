@@ -1,22 +1,50 @@
--- `run_all` is safe and ends: the measure is the number of turns that are left. Assumes nothing.
+-- `run_all` meets its contract: after each turn, what more turns leave is what they leave from there on. Assumes nothing.
 use Prim.Native.Nat.{suc, _-_}
 use mathlib.Core.Path.{_≡_}
 use lib.ListN.{length}
 use borrow.Author.Needs.{needs}
 use Rattle.model.specs.Sizes.{scriptBytes}
+use Rattle.act.specs.Held.{areas}
+use Rattle.run.proofs.Turning.{Left, at-first, goes-on, ends, unwritten, all-done}
 use Rattle.show.proofs.run_all.Statement.{statement}
 use Rattle.show.proofs.run_all.Tie as tie
 
 abbrev Inv-loop : tie.InvT-loop
-Inv-loop state₀ store₀ outbox₀ log₀ script at₀ counter₀ state store outbox log at counter =
-    (length state ≡ length state₀) × ((length store ≡ length store₀) × ((length outbox ≡ length outbox₀) × (length log ≡ length log₀)))
+Inv-loop state₀ store₀ outbox₀ log₀ text₀ script at₀ counter₀ state store outbox log text at counter =
+    ((length state ≡ length state₀) × ((length store ≡ length store₀) × ((length outbox ≡ length outbox₀) × ((length log ≡ length log₀) × (length text ≡ length text₀)))))
+    × Left (areas state₀ store₀ outbox₀ log₀) script (areas state store outbox log) (at .at) counter
 
 abbrev μ-loop : tie.MeasureT-loop
-μ-loop state₀ store₀ outbox₀ log₀ script at₀ counter₀ state store outbox log at counter = suc scriptBytes - counter
+μ-loop state₀ store₀ outbox₀ log₀ text₀ script at₀ counter₀ state store outbox log text at counter = suc scriptBytes - counter
+
+loop-holds : tie.Need-loop-holds Inv-loop μ-loop
+loop-holds c = (search needs, at-first _ _)
+
+returns : tie.Need-returns Inv-loop μ-loop
+returns c =
+    let turn = c .before .before .before .before .before .before .before .before .before .before .before .before in
+    let l = turn .before .before .before .before .before .before .before .loop in
+    ends _ _ _ _ (l .counter) (l .inv .1) (turn .take-turn .ensures .turned) (c .enum-told .given .1)
+
+returns-2 : tie.Need-returns-2 Inv-loop μ-loop
+returns-2 c =
+    let turn = c .before .before .before .before .before .before .before .before .before .before .before .before in
+    let l = turn .before .before .before .before .before .before .before .loop in
+    unwritten _ _ _ _ (l .counter) (l .inv .1) (turn .take-turn .ensures .turned)
+
+loop-again : tie.Need-loop-again Inv-loop μ-loop
+loop-again c =
+    let turn = c .before .before .before .before .before .before .before .before .before .before .before .before .before in
+    let l = turn .before .before .before .before .before .before .before .loop in
+    (search needs, goes-on _ _ _ _ (l .counter) (l .inv .1) (turn .take-turn .ensures .turned) _ (c .before .next .given .1))
+
+returns-3 : tie.Need-returns-3 Inv-loop μ-loop
+returns-3 c = let l = c .before .loop in all-done _ _ _ _ (l .counter) (l .inv .1) (c .loop-test .left)
 
 pub run-all-spec : {M : Type 1} → statement M
 run-all-spec =
     tie.close
-    (tie.spec Inv-loop μ-loop (λ c. search needs) (λ c κs. search needs) (λ c. search needs) (λ c. search needs) (λ c. search needs)
-    (λ c. search needs) (λ c. search needs) (λ c. search needs) (λ c. search needs) (λ c. search needs) (λ c. search needs) (λ c. search needs)
-    (λ c. search needs) (λ c. search needs) (λ c. search needs) (λ c. search needs))
+    (tie.spec Inv-loop μ-loop loop-holds (λ c κs. search needs) (λ c. search needs) (λ c. search needs) (λ c. search needs) (λ c. search needs)
+    (λ c. search needs) (λ c. search needs) (λ c. search needs) returns (λ c. search needs) (λ c. search needs) (λ c. search needs)
+    (λ c. search needs) (λ c. search needs) (λ c. search needs) returns-2 (λ c. search needs) (λ c. search needs) loop-again (λ c. search needs)
+    (λ c. search needs) (λ c. search needs) (λ c. search needs) (λ c. search needs) returns-3)

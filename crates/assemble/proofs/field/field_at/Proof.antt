@@ -1,4 +1,4 @@
--- `field_at` meets its contract, test by test. Assumes nothing.
+-- `field_at` meets its contract, the line is over or has a word there. Assumes nothing.
 use borrow.Author.Needs.{needs}
 use Rattle.assemble.proofs.Fielding.{fields}
 use Rattle.assemble.proofs.field.field_at.Statement.{statement}
@@ -10,11 +10,7 @@ returns c = search (needs, fields)
 returns-2 : tie.Need-returns-2
 returns-2 c = search (needs, fields)
 
-returns-3 : tie.Need-returns-3
-returns-3 c = search (needs, fields)
-
 pub field-at-spec : {M : Type 1} → statement M
 field-at-spec =
     tie.close
-    (tie.spec (λ c κs. search needs) returns (λ c κs. search needs) (λ c κs. search needs) (λ c κs. search needs) (λ c. search needs)
-    (λ c. search needs) returns-2 returns-3)
+    (tie.spec (λ c κs. search needs) returns (λ c κs. search needs) (λ c κs. search needs) returns-2)

@@ -13,7 +13,10 @@ returns-2 c = search (needs, digits)
 returns-3 : tie.Need-returns-3
 returns-3 c = search (needs, digits)
 
+sub-t5 : tie.Need-sub-t5
+sub-t5 c = search (needs, digits)
+
 pub below-zero-spec : {M : Type 1} → statement M
 below-zero-spec =
     tie.close
-    (tie.spec returns returns-2 (λ c. search needs) (λ c. search needs) returns-3)
+    (tie.spec returns returns-2 (λ c. search needs) (λ c. search needs) sub-t5 returns-3)

@@ -13,4 +13,4 @@ returns-2 c = search (needs, digits)
 pub from-zero-up-spec : {M : Type 1} → statement M
 from-zero-up-spec =
     tie.close
-    (tie.spec returns returns-2)
+    (tie.spec (λ c. search needs) returns returns-2)

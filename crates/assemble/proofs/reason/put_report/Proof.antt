@@ -1,6 +1,6 @@
 -- `put_report` meets its contract, text by text. Assumes nothing.
 use borrow.Author.Needs.{needs}
-use Rattle.assemble.proofs.Lines.{reported}
+use Rattle.assemble.proofs.Reporting.{reported}
 use Rattle.assemble.proofs.reason.put_report.Statement.{statement}
 use Rattle.assemble.proofs.reason.put_report.Tie as tie
 

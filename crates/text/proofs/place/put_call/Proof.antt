@@ -3,19 +3,19 @@ use borrow.Author.Needs.{needs}
 use mathlib.Core.Path.{sym}
 use Rattle.io.proofs.Counting.{counts}
 use Rattle.script.proofs.Appending.{wrote}
-use Rattle.text.proofs.Fitting.{is-line, template-short}
+use Rattle.text.proofs.Fitting.{is-front, template-short}
 use Rattle.text.proofs.place.put_call.Statement.{statement}
 use Rattle.text.proofs.place.put_call.Tie as tie
 
 array-share-prefix-words : tie.Need-array-share-prefix-words
-array-share-prefix-words c = is-line (template-short _) (wrote (c .before .before .put-template .ensures)) .inside
+array-share-prefix-words c = is-front (template-short _) (wrote (c .before .before .put-template .ensures)) .inside
 
 slice-aggregate-put-words : tie.Need-slice-aggregate-put-words
-slice-aggregate-put-words c = counts _ _ (is-line (template-short _) (wrote (c .before .before .before .put-template .ensures)) .inside) .1
+slice-aggregate-put-words c = counts _ _ (is-front (template-short _) (wrote (c .before .before .before .put-template .ensures)) .inside) .1
 
 returns : tie.Need-returns
 returns c =
-    rw (sym (is-line (template-short _) (wrote (c .before .before .before .before .before .before .put-template .ensures)) .bytes))
+    rw (sym (is-front (template-short _) (wrote (c .before .before .before .before .before .before .put-template .ensures)) .bytes))
     (c .before .before .put-words .ensures)
 
 pub put-call-spec : {M : Type 1} → statement M
