@@ -1,69 +1,88 @@
 /*
  * panel.c: a headset panel of a language lab. The teacher's task listens to a message buffer; a recorder and a student's line share a
- * tape, which a mutex guards. Each call is printed with what the log tells of it.
+ * tape, which a mutex guards, and blocks of a pool to record in. All nineteen calls are made, and each is printed with what its log tells.
  */
 #include "shinepod.h"
 
 #include <inttypes.h>
 #include <stdio.h>
+#include <stdlib.h>
 #include <string.h>
 
-/* The items of a log. */
-enum { ANSWER = 0x80, WAITS, EXITED, ENDED, MESSAGE, BLOCK, STOPPED = 0x8E, RUNS };
+/* The bytes of what the items of a log are made of. */
+enum { TAG = 1, TASK = 1, FIELD = 4 };
 
 static int32_t field(const uint8_t *at) {
     return (int32_t)((uint32_t)at[0] | (uint32_t)at[1] << 8 | (uint32_t)at[2] << 16 | (uint32_t)at[3] << 24);
 }
 
+static void print_running(int task) {
+    if (task == 0)
+        printf("; no task runs");
+    else
+        printf("; task %d runs", task);
+}
+
+/* Prints an item of a log and gives how many bytes it has: 0 if its first byte is that of no item. */
+static size_t print_item(const uint8_t *item) {
+    switch (item[0]) {
+    case SHINEPOD_LOG_ANSWER:
+        printf(" answer %" PRId32, field(item + TAG));
+        return TAG + FIELD;
+    case SHINEPOD_LOG_WAITS:
+        printf(" waits");
+        return TAG;
+    case SHINEPOD_LOG_EXITS:
+        printf(" exited");
+        return TAG;
+    case SHINEPOD_LOG_ENDED:
+        printf(", task %d's wait ends with %" PRId32, item[TAG], field(item + TAG + TASK));
+        return TAG + TASK + FIELD;
+    case SHINEPOD_LOG_MESSAGE:
+        printf(", task %d gets \"%.*s\"", item[TAG], SHINEPOD_MESSAGE_BYTES, (const char *)item + TAG + TASK);
+        return TAG + TASK + SHINEPOD_MESSAGE_BYTES;
+    case SHINEPOD_LOG_BLOCK:
+        printf(", task %d gets block %" PRId32, item[TAG], field(item + TAG + TASK));
+        return TAG + TASK + FIELD;
+    case SHINEPOD_LOG_RUNS:
+        print_running(item[TAG]);
+        return TAG + TASK;
+    case SHINEPOD_LOG_STOPS:
+        printf(" stopped at %" PRId32, field(item + TAG));
+        return TAG + FIELD;
+    case SHINEPOD_LOG_TOO_LONG:
+        printf(" too long");
+        return TAG;
+    default:
+        return 0;
+    }
+}
+
 /* Prints a record's log: the answer, what is delivered, the waits that ended, and the task that runs now. */
 static void print_log(const uint8_t *log, size_t size) {
-    size_t at = 0;
-    while (at < size) {
-        switch (log[at]) {
-        case ANSWER:
-            printf(" answer %" PRId32, field(log + at + 1));
-            at += 5;
-            break;
-        case WAITS:
-            printf(" waits");
-            at += 1;
-            break;
-        case EXITED:
-            printf(" exited");
-            at += 1;
-            break;
-        case ENDED:
-            printf(", task %d's wait ends with %" PRId32, log[at + 1], field(log + at + 2));
-            at += 6;
-            break;
-        case MESSAGE:
-            printf(", task %d gets \"%.*s\"", log[at + 1], SHINEPOD_MESSAGE_BYTES, (const char *)log + at + 2);
-            at += 2 + SHINEPOD_MESSAGE_BYTES;
-            break;
-        case BLOCK:
-            printf(", task %d gets block %" PRId32, log[at + 1], field(log + at + 2));
-            at += 6;
-            break;
-        case STOPPED:
-            printf(" stopped at %" PRId32, field(log + at + 1));
-            at += 5;
-            break;
-        default:
-            printf("; task %d runs", log[at + 1]);
-            at += 2;
-            break;
+    for (size_t at = 0, bytes; at < size; at += bytes) {
+        bytes = print_item(log + at);
+        if (bytes == 0) {
+            fprintf(stderr, "no item of a log begins with byte %d\n", log[at]);
+            exit(EXIT_FAILURE);
         }
     }
     printf("\n");
 }
 
 static ER show(const shinepod *k, const char *call, shinepod_answer answer) {
-    printf("%-54s", call);
+    printf("%-60s", call);
     print_log(k->log, answer.written);
     return answer.code;
 }
 
 #define SHOW(k, call) show(k, #call, call)
+
+/* The block that the last call was answered with: it stands behind the code. */
+static INT block_got(const shinepod *k) {
+    const uint8_t *item = k->log + TAG + FIELD;
+    return item[0] == SHINEPOD_LOG_BLOCK ? field(item + TAG + TASK) : 0;
+}
 
 static void print_next(const shinepod *k, ID buffer) {
     size_t at, size;
@@ -77,32 +96,117 @@ static void print_next(const shinepod *k, ID buffer) {
         printf("\"%.*s\", in the %s from %zu on\n", (int)size, bytes + at, area == SHINEPOD_IN_STORE ? "store" : "outbox", at);
 }
 
-/* The tape: a recorder holds it, the line waits for it, and the recorder runs with the line's priority until it gives it up. */
-static void tape(shinepod *k, ID tape, ID calls, ID line, ID recorder) {
-    SHOW(k, shinepod_sta_tsk(k, recorder));
-    SHOW(k, shinepod_rcv_mbf(k, calls, TMO_FEVR));
-    SHOW(k, shinepod_loc_mtx(k, tape, TMO_FEVR));
-    SHOW(k, shinepod_sta_tsk(k, line));
-    SHOW(k, shinepod_loc_mtx(k, tape, 20));
-    SHOW(k, shinepod_snd_mbf(k, calls, "tape ends", 10, TMO_POL));
-    SHOW(k, shinepod_unl_mtx(k, tape));
-    SHOW(k, shinepod_unl_mtx(k, tape));
+/* The numbers of what the panel is made of. The teacher is task 1, of priority 8. */
+typedef struct {
+    ID line, recorder, tape, calls, blocks;
+} panel;
+
+static panel lesson_begins(shinepod *k) {
+    panel p;
+    printf("The lesson begins\n");
+    p.line = SHOW(k, shinepod_cre_tsk(k, 4));
+    p.recorder = SHOW(k, shinepod_cre_tsk(k, 12));
+    p.tape = SHOW(k, shinepod_cre_mtx(k, TA_INHERIT, 0));
+    p.calls = SHOW(k, shinepod_cre_mbf(k, TA_TFIFO, 32, 16));
+    p.blocks = SHOW(k, shinepod_cre_mpf(k, TA_TPRI | TA_RNG3, 2, SHINEPOD_BLOCK_BYTES));
+    return p;
+}
+
+/* A recorder holds the tape, the line waits for it, and the recorder runs with the line's priority until it gives it up. */
+static void tape(shinepod *k, const panel *p) {
+    printf("\nThe tape\n");
+    SHOW(k, shinepod_sta_tsk(k, p->recorder));
+    SHOW(k, shinepod_rcv_mbf(k, p->calls, TMO_FEVR));
+    SHOW(k, shinepod_loc_mtx(k, p->tape, TMO_FEVR));
+    SHOW(k, shinepod_sta_tsk(k, p->line));
+    SHOW(k, shinepod_loc_mtx(k, p->tape, 20));
+    SHOW(k, shinepod_snd_mbf(k, p->calls, "tape ends", 10, TMO_POL));
+    SHOW(k, shinepod_unl_mtx(k, p->tape));
+    SHOW(k, shinepod_unl_mtx(k, p->tape));
     SHOW(k, shinepod_ext_tsk(k));
 }
 
-/* Messages: two are stored, the third does not fit and waits for a millisecond; one is shown before it is received. */
-static void messages(shinepod *k, ID calls) {
-    print_next(k, calls);
-    SHOW(k, shinepod_snd_mbf(k, calls, "line 7 asks", 12, TMO_FEVR));
-    SHOW(k, shinepod_snd_mbf(k, calls, "line 2 asks", 12, TMO_FEVR));
-    SHOW(k, shinepod_snd_mbf(k, calls, "line 4 asks", 12, 1));
-    print_next(k, calls);
+/* Two messages are stored, the third does not fit and waits for a millisecond; one is shown before it is received. */
+static void messages(shinepod *k, const panel *p) {
+    printf("\nThe messages\n");
+    print_next(k, p->calls);
+    SHOW(k, shinepod_snd_mbf(k, p->calls, "line 7 asks", 12, TMO_FEVR));
+    SHOW(k, shinepod_snd_mbf(k, p->calls, "line 2 asks", 12, TMO_FEVR));
+    SHOW(k, shinepod_snd_mbf(k, p->calls, "line 4 asks", 12, 1));
+    print_next(k, p->calls);
     SHOW(k, shinepod_tick(k));
-    SHOW(k, shinepod_rcv_mbf(k, calls, TMO_POL));
-    print_next(k, calls);
+    SHOW(k, shinepod_rcv_mbf(k, p->calls, TMO_POL));
+    print_next(k, p->calls);
+}
+
+/*
+ * The teacher takes both blocks. Then all three want one: the teacher for a millisecond, the recorder, and the line, which is the least
+ * urgent now. No task runs, so that only a tick is taken.
+ */
+static INT recordings(shinepod *k, const panel *p) {
+    printf("\nThe recordings\n");
+    SHOW(k, shinepod_get_mpf(k, p->blocks, TMO_FEVR));
+    INT block = block_got(k);
+    SHOW(k, shinepod_get_mpf(k, p->blocks, TMO_FEVR));
+    SHOW(k, shinepod_chg_pri(k, p->line, 15));
+    SHOW(k, shinepod_sta_tsk(k, p->line));
+    SHOW(k, shinepod_get_mpf(k, p->blocks, 1));
+    SHOW(k, shinepod_get_mpf(k, p->blocks, TMO_FEVR));
+    SHOW(k, shinepod_get_mpf(k, p->blocks, TMO_FEVR));
+    SHOW(k, shinepod_ext_tsk(k));
+    SHOW(k, shinepod_tick(k));
+    return block;
+}
+
+/*
+ * The line is urgent again and passes the recorder in the pool's queue: the block that comes back is the line's. It hands the block on,
+ * and makes itself less urgent once more.
+ */
+static void urgency(shinepod *k, const panel *p, INT block) {
+    printf("\nThe line's urgency\n");
+    SHOW(k, shinepod_chg_pri(k, p->line, TPRI_INI));
+    SHOW(k, shinepod_rel_mpf(k, p->blocks, block));
+    SHOW(k, shinepod_rel_mpf(k, p->blocks, block));
+    SHOW(k, shinepod_chg_pri(k, TSK_SELF, 15));
+}
+
+/*
+ * The recorder holds the tape and listens, the line waits for the tape. The teacher terminates the recorder: the tape is the line's, and
+ * the recorder's block stays out.
+ */
+static void recorder_stops(shinepod *k, const panel *p) {
+    printf("\nThe recorder stops\n");
+    SHOW(k, shinepod_rcv_mbf(k, p->calls, TMO_POL));
+    SHOW(k, shinepod_rcv_mbf(k, p->calls, 1));
+    SHOW(k, shinepod_loc_mtx(k, p->tape, TMO_POL));
+    SHOW(k, shinepod_rcv_mbf(k, p->calls, TMO_FEVR));
+    SHOW(k, shinepod_loc_mtx(k, p->tape, TMO_FEVR));
+    SHOW(k, shinepod_tick(k));
+    SHOW(k, shinepod_del_tsk(k, p->recorder));
+    SHOW(k, shinepod_ter_tsk(k, p->recorder));
+    SHOW(k, shinepod_del_tsk(k, p->recorder));
+}
+
+/*
+ * The line waits for a block that nobody returns. All is cleared away: the pool, and with it the line's wait; the tape, which the line
+ * holds; the buffer, and with it a message; and the line.
+ */
+static void lesson_ends(shinepod *k, const panel *p) {
+    printf("\nThe lesson ends\n");
+    SHOW(k, shinepod_rcv_mbf(k, p->calls, 1));
+    SHOW(k, shinepod_get_mpf(k, p->blocks, TMO_FEVR));
+    SHOW(k, shinepod_tick(k));
+    SHOW(k, shinepod_del_mpf(k, p->blocks));
+    SHOW(k, shinepod_del_mtx(k, p->tape));
+    SHOW(k, shinepod_snd_mbf(k, p->calls, "good bye", 9, TMO_POL));
+    SHOW(k, shinepod_del_mbf(k, p->calls));
+    print_next(k, p->calls);
+    SHOW(k, shinepod_ter_tsk(k, p->line));
+    SHOW(k, shinepod_del_tsk(k, p->line));
 }
 
 static void refusals(shinepod *k) {
+    printf("\nRefusals\n");
     SHOW(k, shinepod_cre_tsk(k, SHINEPOD_PRIORITIES + 1));
     SHOW(k, shinepod_sta_tsk(k, SHINEPOD_TASKS + 1));
     SHOW(k, shinepod_rel_mpf(k, 1, 1));
@@ -112,21 +216,6 @@ static void refusals(shinepod *k) {
     k->state[0] ^= 1;
     SHOW(k, shinepod_tick(k));
     k->state[0] ^= 1;
-}
-
-/* The records of a script, on a kernel of its own. */
-static void script(shinepod *k) {
-    static const uint8_t bytes[] = {TK_TICK, TK_GET_MPF, 1, 0, 0, 0, 0, 0, 0, 0, TK_SND_MBF};
-    size_t at = 0, written = 0;
-    ER code = E_OK;
-    uint32_t outcome = SHINEPOD_ANSWERED;
-    shinepod_start(k);
-    while (outcome != SHINEPOD_OVER) {
-        printf("record at %zu:", at);
-        outcome = shinepod_run_record(k->state, SHINEPOD_STATE_WORDS, k->store, SHINEPOD_STORE_BYTES, k->outbox, SHINEPOD_OUTBOX_BYTES,
-                                      k->log, SHINEPOD_LOG_BYTES, bytes, sizeof bytes, &at, &code, &written);
-        print_log(k->log, written);
-    }
 }
 
 static int is_valid(const shinepod *k, size_t store_bytes) {
@@ -145,19 +234,40 @@ static int tick_with_store(shinepod *k, size_t store_bytes) {
     return (int)code;
 }
 
+static void lengths(shinepod *k) {
+    printf("valid: %d, with a shorter store: %d\n", is_valid(k, SHINEPOD_STORE_BYTES), is_valid(k, SHINEPOD_STORE_BYTES - 1));
+    printf("a tick with a byte of store less: %d, with one more: %d, with all of it: %d\n", tick_with_store(k, SHINEPOD_STORE_BYTES - 1),
+           tick_with_store(k, SHINEPOD_STORE_BYTES + 1), tick_with_store(k, SHINEPOD_STORE_BYTES));
+}
+
+/* The records of a script, on the fresh kernel. */
+static void script(shinepod *k) {
+    static const uint8_t bytes[] = {TK_TICK, TK_GET_MPF, 1, 0, 0, 0, 0, 0, 0, 0, TK_SND_MBF};
+    size_t at = 0, written = 0;
+    ER code = E_OK;
+    uint32_t outcome = SHINEPOD_ANSWERED;
+    printf("\nA script\n");
+    shinepod_start(k);
+    while (outcome != SHINEPOD_OVER) {
+        printf("record at %zu:", at);
+        outcome = shinepod_run_record(k->state, SHINEPOD_STATE_WORDS, k->store, SHINEPOD_STORE_BYTES, k->outbox, SHINEPOD_OUTBOX_BYTES,
+                                      k->log, SHINEPOD_LOG_BYTES, bytes, sizeof bytes, &at, &code, &written);
+        print_log(k->log, written);
+    }
+}
+
 int main(void) {
     static shinepod k;
-    if (shinepod_start(&k) != E_OK) return 1;
-    ID line = SHOW(&k, shinepod_cre_tsk(&k, 4));
-    ID recorder = SHOW(&k, shinepod_cre_tsk(&k, 12));
-    ID mutex = SHOW(&k, shinepod_cre_mtx(&k, TA_INHERIT, 0));
-    ID calls = SHOW(&k, shinepod_cre_mbf(&k, TA_TFIFO, 32, 16));
-    tape(&k, mutex, calls, line, recorder);
-    messages(&k, calls);
+    if (shinepod_start(&k) != E_OK) return EXIT_FAILURE;
+    const panel p = lesson_begins(&k);
+    tape(&k, &p);
+    messages(&k, &p);
+    INT block = recordings(&k, &p);
+    urgency(&k, &p, block);
+    recorder_stops(&k, &p);
+    lesson_ends(&k, &p);
     refusals(&k);
-    printf("valid: %d, with a shorter store: %d\n", is_valid(&k, SHINEPOD_STORE_BYTES), is_valid(&k, SHINEPOD_STORE_BYTES - 1));
-    printf("a tick with a byte of store less: %d, with one more: %d, with all of it: %d\n", tick_with_store(&k, SHINEPOD_STORE_BYTES - 1),
-           tick_with_store(&k, SHINEPOD_STORE_BYTES + 1), tick_with_store(&k, SHINEPOD_STORE_BYTES));
+    lengths(&k);
     script(&k);
-    return 0;
+    return EXIT_SUCCESS;
 }

@@ -25,7 +25,10 @@
 #include <stddef.h>
 #include <stdint.h>
 
-/* Every number: sizes SHINEPOD_.., codes E_.., kinds TK_.., and the outcomes and places below. Made from the crates' sources. */
+/*
+ * Every number: sizes SHINEPOD_.., codes E_.., kinds TK_.., items of a log SHINEPOD_LOG_.., and the outcomes and places below. Made from
+ * the crates' sources.
+ */
 #include "shinepod_numbers.h"
 
 #ifdef __cplusplus
@@ -41,13 +44,24 @@ typedef int32_t ATR;
 typedef int32_t PRI;
 typedef int32_t TMO;
 
-/* The manual's attributes and timeouts. TA_TPRI orders a queue by priority; in a mutex's attribute it is one of four numbers. */
+/*
+ * The manual's attributes. A mutex has one of the first four, a buffer one of the first two, a pool one of the first two plus one of
+ * the protection levels TA_RNG0 to TA_RNG3, which have no effect. TA_TPRI orders a queue by priority; so do TA_INHERIT and TA_CEILING.
+ */
 #define TA_TFIFO SHINEPOD_BY_ARRIVAL
 #define TA_TPRI SHINEPOD_BY_PRIORITY
 #define TA_INHERIT SHINEPOD_INHERITS
 #define TA_CEILING SHINEPOD_CEILINGED
+#define TA_RNG0 (0 * SHINEPOD_PROTECTION)
+#define TA_RNG1 (1 * SHINEPOD_PROTECTION)
+#define TA_RNG2 (2 * SHINEPOD_PROTECTION)
+#define TA_RNG3 (3 * SHINEPOD_PROTECTION)
+
+/* Its timeouts, in milliseconds: not to wait, and to wait without end. For chg_pri: the caller, and the task's initial priority. */
 #define TMO_POL 0
 #define TMO_FEVR (-1)
+#define TSK_SELF 0
+#define TPRI_INI 0
 
 /*
  * The areas become the fresh kernel: task 1 runs, and nothing else is there. E_OK; or E_SYS, and nothing is changed, if a length is
@@ -65,9 +79,9 @@ ER shinepod_fresh(uint32_t *state, size_t state_words, uint8_t *store, size_t st
  *     SHINEPOD_EXITED         the caller has exited, by TK_EXT_TSK; *code is 0
  *     SHINEPOD_UNKNOWN_KIND   no call has the kind; nothing is changed, *code and *written are 0
  *
- * *written bytes at the front of the log area tell what happened, the rest of it stays as it came; their form is that of a script's log.
- * A negative code leaves state, store and outbox as they came. E_SYS also says that an area has another length, or that it does
- * not hold what a kernel leaves there: a log area of another length stays as it came too, and *written is 0.
+ * *written bytes at the front of the log area tell what happened, the rest of it stays as it came: the items of "The log" below.
+ * A negative code leaves state, store and outbox as they came. E_SYS also says that an area has another length, or that
+ * the areas are not valid (shinepod_is_valid): a log area of another length stays as it came too, and *written is 0.
  */
 uint32_t shinepod_call(uint32_t *state, size_t state_words, uint8_t *store, size_t store_bytes, uint8_t *outbox, size_t outbox_bytes,
                        uint8_t *log, size_t log_bytes, uint8_t kind, int32_t first, int32_t second, int32_t third,
@@ -93,12 +107,35 @@ uint32_t shinepod_run_record(uint32_t *state, size_t state_words, uint8_t *store
 uint32_t shinepod_next_message(const uint32_t *state, size_t state_words, const uint8_t *store, size_t store_bytes,
                                const uint8_t *outbox, size_t outbox_bytes, ID buffer, size_t *at, size_t *size);
 
-/* Whether the areas have their lengths and hold what a kernel can leave there. Nothing is changed. */
+/*
+ * Whether the areas have their lengths and what they hold is valid: what document 01 calls sound. The fresh kernel is, and every call keeps
+ * it so. That calls lead there from the fresh kernel is not asked. Nothing is changed.
+ */
 bool shinepod_is_valid(const uint32_t *state, size_t state_words, const uint8_t *store, size_t store_bytes, const uint8_t *outbox,
                        size_t outbox_bytes);
 
+/*
+ * The log. It is a row of items: a byte that says which one it is, and what follows it. A task is one byte; a code, a block and an offset
+ * are four, the least first, a code signed.
+ *
+ *     SHINEPOD_LOG_ANSWER     code                             the call is answered with the code
+ *     SHINEPOD_LOG_WAITS      nothing                          the caller waits
+ *     SHINEPOD_LOG_EXITS      nothing                          the caller has exited
+ *     SHINEPOD_LOG_ENDED      task, code                       the task's wait has ended with the code
+ *     SHINEPOD_LOG_MESSAGE    task, SHINEPOD_MESSAGE_BYTES     the task got a message, with zeros behind it; the code before is its length
+ *     SHINEPOD_LOG_BLOCK      task, block                      the task got a block of a pool, counted from 1; the code before is 0
+ *     SHINEPOD_LOG_RUNS       task                             the task that runs now, 0 for none
+ *     SHINEPOD_LOG_STOPS      offset                           the script stops there: unknown kind, cut body
+ *     SHINEPOD_LOG_TOO_LONG   nothing                          the script has more than SHINEPOD_SCRIPT_BYTES bytes
+ *
+ * A call's log is one of the first three, which a message or a block of the caller's follows; then for each wait that ended, in order, its
+ * item, which a message or a block of that task's follows; then the task that runs. Where a script is over, the log is one of the
+ * last two, or has no item at the script's end.
+ */
+
 /* ---- The same in fewer words: areas of the right lengths in one place, and the manual's calls by their names. */
 
+/* A kernel: its four areas, with the right lengths. There may be any number of them. */
 typedef struct {
     uint32_t state[SHINEPOD_STATE_WORDS];
     uint8_t store[SHINEPOD_STORE_BYTES];
@@ -106,16 +143,19 @@ typedef struct {
     uint8_t log[SHINEPOD_LOG_BYTES];
 } shinepod;
 
+/* What shinepod_call gives: SHINEPOD_ANSWERED and so on, the code, and how many bytes of the kernel's log area are this call's log. */
 typedef struct {
     uint32_t outcome;
     ER code;
     size_t written;
 } shinepod_answer;
 
+/* The kernel becomes the fresh one: always E_OK. Before that it may hold anything. */
 static inline ER shinepod_start(shinepod *k) {
     return shinepod_fresh(k->state, SHINEPOD_STATE_WORDS, k->store, SHINEPOD_STORE_BYTES, k->outbox, SHINEPOD_OUTBOX_BYTES);
 }
 
+/* One call by its kind and fields. The message may be NULL where it has no bytes. */
 static inline shinepod_answer shinepod_make(shinepod *k, uint8_t kind, int32_t first, int32_t second, int32_t third, const void *message,
                                             size_t message_bytes) {
     static const uint8_t none[1] = {0};
@@ -127,6 +167,10 @@ static inline shinepod_answer shinepod_make(shinepod *k, uint8_t kind, int32_t f
     return answer;
 }
 
+/*
+ * The nineteen calls, with the manual's names for their fields. Those that create answer the new number, rcv_mbf the message's length,
+ * the others 0.
+ */
 static inline shinepod_answer shinepod_cre_tsk(shinepod *k, PRI itskpri) { return shinepod_make(k, TK_CRE_TSK, itskpri, 0, 0, NULL, 0); }
 
 static inline shinepod_answer shinepod_del_tsk(shinepod *k, ID tskid) { return shinepod_make(k, TK_DEL_TSK, tskid, 0, 0, NULL, 0); }
@@ -176,13 +220,13 @@ static inline shinepod_answer shinepod_cre_mpf(shinepod *k, ATR mpfatr, SZ mpfcn
 
 static inline shinepod_answer shinepod_del_mpf(shinepod *k, ID mpfid) { return shinepod_make(k, TK_DEL_MPF, mpfid, 0, 0, NULL, 0); }
 
-/* The block stands in the log, behind the code. */
+/* The block stands in the log, behind the code: its number, counted from 1, which is what rel_mpf takes. */
 static inline shinepod_answer shinepod_get_mpf(shinepod *k, ID mpfid, TMO tmout) {
     return shinepod_make(k, TK_GET_MPF, mpfid, tmout, 0, NULL, 0);
 }
 
-static inline shinepod_answer shinepod_rel_mpf(shinepod *k, ID mpfid, INT block) {
-    return shinepod_make(k, TK_REL_MPF, mpfid, block, 0, NULL, 0);
+static inline shinepod_answer shinepod_rel_mpf(shinepod *k, ID mpfid, INT blf) {
+    return shinepod_make(k, TK_REL_MPF, mpfid, blf, 0, NULL, 0);
 }
 
 /* One millisecond passes. */

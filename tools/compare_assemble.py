@@ -66,7 +66,11 @@ def record(line):
         word, rest = found.group(1), rest[found.end():]
         if word == "":
             raise Wrong("a field is missing")
-        number = word[len(field) + 1:] if word.startswith(field + "=") else word
+        name_of, equals, number = word.partition("=")
+        if equals == "":
+            number = word
+        elif name_of != field:
+            raise Wrong("this field has another name")
         if not re.fullmatch(r"-?[0-9]+", number) or not -2**31 <= int(number) < 2**31:
             raise Wrong("not a number of 32 bits")
         made += struct.pack("<i", int(number))
@@ -100,10 +104,11 @@ def written(text):
 
 SEND = b"snd_mbf 1 1 0 "
 FIXED = [
-    b"", b"\n", b"#", b"tick", b"tick\n", b"tick#", b"tick 1", b"tock", b"TICK", b"tic", b"tickk", b"tick\0", b"\0", b"\xff\xfe", bytes(range(256)),
+    b"", b"\n", b"#", b"tick", b"tick\n", b"tick#", b"tick 1", b"tock", b"TICK", b"tic", b"tickk", b"tick\0", b"\0", b"\xff\xfe", b"\xef\xbb\xbftick", b"\xef\xbb\xbf# first\n", bytes(range(256)),
     b"\r\n\r\ntick\r\n", b"cre_tsk", b"cre_tsk # 5", b"cre_tsk 5 6", b"cre_tsk x", b"cre_tsk itskpri=", b"cre_tsk itskpri", b"cre_tsk =5", b"cre_tsk --5",
     b"cre_tsk -", b"cre_tsk +5", b"cre_tsk 2147483647", b"cre_tsk 2147483648", b"cre_tsk -2147483648", b"cre_tsk -2147483649", b"cre_tsk 4294967295",
     b"cre_tsk 99999999999999999999", b"cre_tsk 0000000000000000000000005", b"cre_tsk -0", b"cre_tsk tskid=5", b"cre_tsk 5=5", b"cre_tsk itskpri=itskpri=5",
+    b"cre_tsk itskpri=5=", b"cre_tsk itskprio=5", b"cre_tsk itskpr=5", b"cre_tsk tskid=x", b"loc_mtx tmout=1 5", b"loc_mtx 1 mtxid=5", b"cre_tsk =", b"cre_tsk 5#=",
     SEND + b'"', SEND + b'"a', SEND + b'"\\"', SEND + b'"\\x4"', SEND + b'"\\x4', SEND + b'"\\xg0"', SEND + b"x", SEND + b"x4", SEND + b"x4g", SEND + b"hello",
     SEND + b'"a" b', SEND + b'"a"b', SEND + b'"a"#b', b'snd_mbf 1 1 0"a"', SEND + b'"' + b"1" * 32 + b'"', SEND + b'"' + b"1" * 33 + b'"', SEND + b'"' + b"1" * 32,
     SEND + b'"' + b"1" * 32 + b"\\", SEND + b"x" + b"11" * 32, SEND + b"x" + b"11" * 33, SEND + b"x" + b"11" * 32 + b"1", b"tick\n" * 16384, b"tick\n" * 16385,

@@ -6,10 +6,12 @@ use reference::random::Random;
 use reference::record::{self, KINDS};
 use reference::words::WORDS;
 use reference::{next_message, run_record, states, Answer, Kernel};
+use shinepod::numbers::{ANSWERED, IN_OUTBOX, IN_STORE, NOWHERE, OVER, UNKNOWN_KIND};
+use shinepod::raw::Shown;
 
 use crate::difference::{hex, same, same_all, Compared, Expected};
 use crate::fields::{any_bytes, any_record, split, unknown_kind};
-use crate::library::{Came, Lent, Shown, ANSWERED, NOWHERE, OVER, SENT, STORED, UNKNOWN};
+use crate::library::{Came, Lent};
 use crate::scripts::end_log;
 
 /// Longest list of message bytes that is handed over.
@@ -202,7 +204,7 @@ impl Case<'_> {
     fn unknown(&mut self) -> Compared {
         let kind = unknown_kind(self.random);
         let fields = [self.random.word(), self.random.word(), self.random.word()];
-        let came = Came { outcome: UNKNOWN, code: E_OK, written: 0, at: 0 };
+        let came = Came { outcome: UNKNOWN_KIND, code: E_OK, written: 0, at: 0 };
         self.lent.set(self.state, self.log);
         let answered = self.lent.call(kind, fields.map(|field| field as i32), &[]);
         same_all(&self.lent, answered, &Expected { came, state: self.state, log: self.log })
@@ -271,8 +273,8 @@ fn shown(state: &State, buffer: i32) -> Shown {
     if message.is_empty() {
         Shown { area: NOWHERE, at: 0, size: 0 }
     } else if state.store.as_ptr_range().contains(&message.as_ptr()) {
-        place(STORED, &state.store)
+        place(IN_STORE, &state.store)
     } else {
-        place(SENT, &state.outbox)
+        place(IN_OUTBOX, &state.outbox)
     }
 }

@@ -1,91 +1,9 @@
-//! The functions of the static library, as `include/shinepod.h` declares them, and what is lent to them.
+//! What is lent to the library, and what it gives: the functions are the crate `shinepod`'s, with the numbers that C has.
 
 use reference::lent_state::State;
 use reference::Answer;
-
-mod c {
-    extern "C" {
-        pub fn shinepod_fresh(
-            state: *mut u32,
-            state_words: usize,
-            store: *mut u8,
-            store_bytes: usize,
-            outbox: *mut u8,
-            outbox_bytes: usize,
-        ) -> i32;
-
-        pub fn shinepod_is_valid(
-            state: *const u32,
-            state_words: usize,
-            store: *const u8,
-            store_bytes: usize,
-            outbox: *const u8,
-            outbox_bytes: usize,
-        ) -> bool;
-
-        pub fn shinepod_next_message(
-            state: *const u32,
-            state_words: usize,
-            store: *const u8,
-            store_bytes: usize,
-            outbox: *const u8,
-            outbox_bytes: usize,
-            buffer: i32,
-            at: *mut usize,
-            size: *mut usize,
-        ) -> u32;
-
-        pub fn shinepod_call(
-            state: *mut u32,
-            state_words: usize,
-            store: *mut u8,
-            store_bytes: usize,
-            outbox: *mut u8,
-            outbox_bytes: usize,
-            log: *mut u8,
-            log_bytes: usize,
-            kind: u8,
-            first: i32,
-            second: i32,
-            third: i32,
-            message: *const u8,
-            message_bytes: usize,
-            code: *mut i32,
-            written: *mut usize,
-        ) -> u32;
-
-        pub fn shinepod_run_record(
-            state: *mut u32,
-            state_words: usize,
-            store: *mut u8,
-            store_bytes: usize,
-            outbox: *mut u8,
-            outbox_bytes: usize,
-            log: *mut u8,
-            log_bytes: usize,
-            script: *const u8,
-            script_bytes: usize,
-            at: *mut usize,
-            code: *mut i32,
-            written: *mut usize,
-        ) -> u32;
-    }
-}
-
-/// The outcomes of a call and of a record.
-pub const ANSWERED: u32 = 0;
-pub const WAITS: u32 = 1;
-pub const EXITED: u32 = 2;
-pub const UNKNOWN: u32 = 3;
-pub const OVER: u32 = 4;
-
-/// Where a next message lies.
-pub const NOWHERE: u32 = 0;
-pub const STORED: u32 = 1;
-pub const SENT: u32 = 2;
-
-/// What an outcome's number is left as where the library writes none.
-const UNWRITTEN: usize = 0x5A5A_5A5A;
+use shinepod::numbers::{ANSWERED, EXITED, WAITS};
+use shinepod::raw::{self, Shown};
 
 /// What a call or a record comes to, beside the areas.
 #[derive(Clone, Copy, PartialEq, Eq, Debug)]
@@ -106,14 +24,10 @@ impl Came {
         };
         Came { outcome, code, written, at }
     }
-}
 
-/// A next message: in which area it lies, from where, and how long it is.
-#[derive(Clone, Copy, PartialEq, Eq, Debug)]
-pub struct Shown {
-    pub area: u32,
-    pub at: usize,
-    pub size: usize,
+    fn given(came: raw::Came, at: usize) -> Came {
+        Came { outcome: came.outcome, code: came.code, written: came.written, at }
+    }
 }
 
 /// A list with some entries before and behind it, which nobody may touch.
@@ -155,14 +69,6 @@ impl<T: Copy + PartialEq + From<u8>> Guarded<T> {
         let (before, rest) = self.all.split_at(GUARD);
         let behind = &rest[rest.len() - GUARD..];
         before.iter().chain(behind).all(|&entry| entry == T::from(0xA5))
-    }
-
-    fn pointer(&self) -> *const T {
-        self.list().as_ptr()
-    }
-
-    fn pointer_mut(&mut self) -> *mut T {
-        self.list_mut().as_mut_ptr()
     }
 }
 
@@ -218,97 +124,44 @@ impl Lent {
     }
 
     pub fn fresh(&mut self) -> i32 {
-        unsafe {
-            c::shinepod_fresh(
-                self.words.pointer_mut(),
-                self.words.len(),
-                self.store.pointer_mut(),
-                self.store.len(),
-                self.outbox.pointer_mut(),
-                self.outbox.len(),
-            )
-        }
+        let Lent { words, store, outbox, .. } = self;
+        raw::fresh(words.list_mut(), store.list_mut(), outbox.list_mut())
     }
 
     pub fn is_valid(&self) -> bool {
-        let (words, store, outbox) = (&self.words, &self.store, &self.outbox);
-        unsafe {
-            c::shinepod_is_valid(
-                words.pointer(),
-                words.len(),
-                store.pointer(),
-                store.len(),
-                outbox.pointer(),
-                outbox.len(),
-            )
-        }
+        raw::is_valid(self.words(), self.store(), self.outbox())
     }
 
     pub fn next_message(&self, buffer: i32) -> Shown {
-        let (words, store, outbox) = (&self.words, &self.store, &self.outbox);
-        let mut shown = Shown { area: NOWHERE, at: UNWRITTEN, size: UNWRITTEN };
-        shown.area = unsafe {
-            c::shinepod_next_message(
-                words.pointer(),
-                words.len(),
-                store.pointer(),
-                store.len(),
-                outbox.pointer(),
-                outbox.len(),
-                buffer,
-                &mut shown.at,
-                &mut shown.size,
-            )
-        };
-        shown
+        raw::next_message(self.words(), self.store(), self.outbox(), buffer)
     }
 
     /// A call by its kind and fields, with message bytes of any number.
     pub fn call(&mut self, kind: u8, fields: [i32; 3], message: &[u8]) -> Came {
-        let mut came = Came { outcome: 0, code: UNWRITTEN as i32, written: UNWRITTEN, at: 0 };
-        came.outcome = unsafe {
-            c::shinepod_call(
-                self.words.pointer_mut(),
-                self.words.len(),
-                self.store.pointer_mut(),
-                self.store.len(),
-                self.outbox.pointer_mut(),
-                self.outbox.len(),
-                self.log.pointer_mut(),
-                self.log.len(),
-                kind,
-                fields[0],
-                fields[1],
-                fields[2],
-                message.as_ptr(),
-                message.len(),
-                &mut came.code,
-                &mut came.written,
-            )
-        };
-        came
+        let Lent { words, store, outbox, log } = self;
+        let came = raw::call(
+            words.list_mut(),
+            store.list_mut(),
+            outbox.list_mut(),
+            log.list_mut(),
+            kind,
+            fields,
+            message,
+        );
+        Came::given(came, 0)
     }
 
     /// The record at a place of a script.
-    pub fn run_record(&mut self, script: &[u8], at: usize) -> Came {
-        let mut came = Came { outcome: 0, code: UNWRITTEN as i32, written: UNWRITTEN, at };
-        came.outcome = unsafe {
-            c::shinepod_run_record(
-                self.words.pointer_mut(),
-                self.words.len(),
-                self.store.pointer_mut(),
-                self.store.len(),
-                self.outbox.pointer_mut(),
-                self.outbox.len(),
-                self.log.pointer_mut(),
-                self.log.len(),
-                script.as_ptr(),
-                script.len(),
-                &mut came.at,
-                &mut came.code,
-                &mut came.written,
-            )
-        };
-        came
+    pub fn run_record(&mut self, script: &[u8], mut at: usize) -> Came {
+        let Lent { words, store, outbox, log } = self;
+        let came = raw::run_record(
+            words.list_mut(),
+            store.list_mut(),
+            outbox.list_mut(),
+            log.list_mut(),
+            script,
+            &mut at,
+        );
+        Came::given(came, at)
     }
 }

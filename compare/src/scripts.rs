@@ -7,10 +7,11 @@ use reference::random::Random;
 use reference::record;
 use reference::tally::Tally;
 use reference::{run_script, Kernel, Outcome};
+use shinepod::numbers::{ANSWERED, OVER};
 
 use crate::difference::{hex, same, same_all, Compared, Expected};
 use crate::fields::split;
-use crate::library::{Came, Lent, ANSWERED, OVER};
+use crate::library::{Came, Lent};
 
 const TOO_LONG: u8 = 0x8D;
 const STOPPED: u8 = 0x8E;
@@ -20,7 +21,10 @@ const LONG: usize = 10 * RECORDS;
 
 /// Script number `index` of a seed. Gives how many records ran; the tally counts what happened.
 pub fn compare(seed: u64, index: u64, tally: &mut Tally) -> Result<u64, String> {
-    let records = if index % 16 == 0 { LONG } else { RECORDS };
+    let records = match index % 16 {
+        0 => LONG,
+        _ => RECORDS,
+    };
     let script = generate(seed, index, records, tally);
     let mut random = Random::new(seed ^ index);
     let mut log = [0; LOG];
