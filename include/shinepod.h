@@ -71,8 +71,8 @@ ER shinepod_fresh(uint32_t *state, size_t state_words, uint8_t *store, size_t st
 
 /*
  * One call of the task that runs, by its kind (TK_..) and up to three fields in the manual's order; fields that the call has not are not
- * looked at. The message is that of TK_SND_MBF: its first msgsz bytes count, zeros where fewer are handed over, and no byte behind the
- * first SHINEPOD_MESSAGE_BYTES. Gives
+ * looked at. The message is that of TK_SND_MBF: its first msgsz bytes are sent, zeros where fewer are handed over. With a byte behind
+ * them that is not zero the call is refused (E_PAR); no byte behind the first SHINEPOD_MESSAGE_BYTES is looked at. Gives
  *
  *     SHINEPOD_ANSWERED       *code is the answer: a number or 0 if all went well, else one of E_..
  *     SHINEPOD_WAITS          the caller waits; *code is 0
@@ -203,7 +203,7 @@ static inline shinepod_answer shinepod_cre_mbf(shinepod *k, ATR mbfatr, SZ bufsz
 
 static inline shinepod_answer shinepod_del_mbf(shinepod *k, ID mbfid) { return shinepod_make(k, TK_DEL_MBF, mbfid, 0, 0, NULL, 0); }
 
-/* msgsz bytes are read from msg, but none for a number below 0, and no more than SHINEPOD_MESSAGE_BYTES. */
+/* msgsz bytes are read from msg, but none for a number below 0, and no more than SHINEPOD_MESSAGE_BYTES: no other byte is handed over. */
 static inline shinepod_answer shinepod_snd_mbf(shinepod *k, ID mbfid, const void *msg, INT msgsz, TMO tmout) {
     size_t bytes = msgsz < 0 ? 0 : msgsz < SHINEPOD_MESSAGE_BYTES ? (size_t)msgsz : SHINEPOD_MESSAGE_BYTES;
     return shinepod_make(k, TK_SND_MBF, mbfid, msgsz, tmout, msg, bytes);

@@ -220,7 +220,11 @@ fn rel_mpf(_: &Lent) -> Vec<Call> {
 }
 
 fn snd_mbf(buffer: i32, timeout: i32) -> Call {
-    Call::SndMbf { buffer, msgsz: 8, timeout, bytes: [7; MESSAGE] }
+    Call::SndMbf { buffer, msgsz: 8, timeout, bytes: message(8) }
+}
+
+fn message(msgsz: i32) -> [u8; MESSAGE] {
+    std::array::from_fn(|i| if (i as i32) < msgsz { msgsz as u8 } else { 0 })
 }
 
 fn stores(x: &Lent, b: u32) -> bool {
@@ -401,7 +405,7 @@ fn any_call(random: &mut Random) -> Call {
     match number(100) {
         1..=22 => Call::LocMtx { mutex, timeout },
         23..=38 => Call::UnlMtx { mutex },
-        39..=52 => Call::SndMbf { buffer, msgsz, timeout, bytes: [msgsz as u8; MESSAGE] },
+        39..=52 => Call::SndMbf { buffer, msgsz, timeout, bytes: message(msgsz) },
         53..=66 => Call::RcvMbf { buffer, timeout },
         67..=75 => Call::GetMpf { pool, timeout },
         76..=83 => Call::RelMpf { pool, block },

@@ -10,7 +10,7 @@ use shinepod::numbers::{ANSWERED, IN_OUTBOX, IN_STORE, NOWHERE, OVER, UNKNOWN_KI
 use shinepod::raw::Shown;
 
 use crate::difference::{hex, same, same_all, Compared, Expected};
-use crate::fields::{any_bytes, any_record, split, unknown_kind};
+use crate::fields::{any_bytes, any_record, mostly_clean, split, unknown_kind};
 use crate::library::{Came, Lent};
 use crate::scripts::end_log;
 
@@ -158,7 +158,8 @@ impl Case<'_> {
         self.by_record(&record)
             .and_then(|()| self.by_call(&record, &record[record.len().min(13)..]))
             .and_then(|()| {
-                let handed = any_bytes(HANDED, self.random);
+                let mut handed = any_bytes(HANDED, self.random);
+                mostly_clean(&record, &mut handed, self.random);
                 self.by_call(&record, &handed)
             })
             .map_err(|what| self.report(&hex(&record), what))

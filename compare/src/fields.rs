@@ -17,8 +17,25 @@ pub fn any_record(row: usize, extreme: usize, random: &mut Random) -> Vec<u8> {
         let field = if is_extreme { extreme_field(random) } else { usual_field(kind, i, random) };
         record.extend_from_slice(&field.to_le_bytes());
     }
-    record.extend((record.len()..1 + body).map(|_| random.word() as u8));
+    let mut bytes: Vec<u8> = (record.len()..1 + body).map(|_| random.word() as u8).collect();
+    mostly_clean(&record, &mut bytes, random);
+    record.extend(bytes);
     record
+}
+
+/// Behind a send's message mostly zeros are put, since it is refused with other bytes there; at times zeros and one other byte, at times
+/// nothing.
+pub fn mostly_clean(record: &[u8], bytes: &mut [u8], random: &mut Random) {
+    let (0x22, [_, msgsz, _], _) = split(record) else { return };
+    let how = random.below(8);
+    let end = bytes.len().min(MESSAGE);
+    let tail = &mut bytes[end.min(msgsz.max(0) as usize)..end];
+    if how > 0 {
+        tail.fill(0);
+    }
+    if how == 1 && !tail.is_empty() {
+        tail[random.below(tail.len())] = random.between(1, i32::from(u8::MAX)) as u8;
+    }
 }
 
 /// A kind that no call has.

@@ -108,12 +108,58 @@ impl CallMaker {
     }
 
     pub fn snd_mbf(&mut self, buffer: BufferNo, msgsz: i32, timeout: i32) -> Call {
-        let mut bytes = [0; MESSAGE];
-        for byte in &mut bytes {
-            // Some zeros inside and behind the message.
-            *byte = if self.random.percent(20) { 0 } else { self.random.word() as u8 };
-        }
+        let bytes = self.message(msgsz);
         Call::SndMbf { buffer: i32::from(buffer.get()), msgsz, timeout, bytes }
+    }
+
+    /// Zeros behind the message, and mostly some inside it.
+    fn message(&mut self, msgsz: i32) -> [u8; MESSAGE] {
+        let mut bytes = [0; MESSAGE];
+        let zeros = self.random.pick(&[0, 20, 20, 60]);
+        for byte in bytes.iter_mut().take(msgsz.max(0) as usize) {
+            if !self.random.percent(zeros) {
+                *byte = self.nonzero();
+            }
+        }
+        bytes
+    }
+
+    fn nonzero(&mut self) -> u8 {
+        self.random.between(1, i32::from(u8::MAX)) as u8
+    }
+
+    /// A send to any number with a dirty tail; at times one with a msgsz above 32, which has none.
+    pub fn dirty_send(&mut self) -> Call {
+        let most = MESSAGE as i32;
+        let msgsz = if self.random.percent(15) {
+            // In their lowest byte alone, or the lowest two, some of these are 1.
+            self.random.pick(&[most + 1, most + 2, (1 << 8) + 1, (1 << 16) + 1, i32::MAX])
+        } else {
+            self.random.between(1, most - 1)
+        };
+        let mut bytes = self.message(msgsz);
+        if msgsz < most {
+            self.soil(&mut bytes[msgsz as usize..]);
+        }
+        let buffers = self.buffers();
+        let buffer = match self.random.pick_if_any(&buffers) {
+            Some(buffer) if self.random.percent(50) => i32::from(buffer.get()),
+            _ => self.random.between(0, BUFFERS as i32 + 1),
+        };
+        let timeout =
+            if self.random.percent(10) { self.random.between(-4, -2) } else { self.timeout() };
+        Call::SndMbf { buffer, msgsz, timeout, bytes }
+    }
+
+    /// Bytes other than zero in a tail: the first, the last, any one, or all.
+    fn soil(&mut self, tail: &mut [u8]) {
+        let last = tail.len() - 1;
+        match self.random.below(4) {
+            0 => tail[0] = self.nonzero(),
+            1 => tail[last] = self.nonzero(),
+            2 => tail[self.random.below(tail.len())] = self.nonzero(),
+            _ => tail.iter_mut().for_each(|byte| *byte = self.nonzero()),
+        }
     }
 
     /// A call of the kind that is likely to be good; none if there is nothing to call it on.
@@ -289,7 +335,14 @@ impl CallMaker {
             };
             bytes.extend_from_slice(&field.to_le_bytes());
         }
-        record::read(&bytes).map_or(Call::Tick, |(call, _)| call)
+        let mut call = record::read(&bytes).map_or(Call::Tick, |(call, _)| call);
+        if let Call::SndMbf { msgsz, ref mut bytes, .. } = call {
+            // Dirty tails hide the orders behind them.
+            if self.random.percent(70) {
+                *bytes = self.message(msgsz);
+            }
+        }
+        call
     }
 }
 

@@ -299,7 +299,7 @@ impl Kernel {
         bytes: &[u8; MESSAGE],
         out: &mut Outcome,
     ) -> Result {
-        if timeout <= -2 || msgsz <= 0 {
+        if timeout <= -2 || msgsz <= 0 || has_dirty_tail(msgsz as usize, bytes) {
             return Err(E_PAR);
         }
         let (number, buffer) = self.live_buffer(buffer)?;
@@ -557,6 +557,12 @@ fn created(index: usize) -> Answer {
 fn stored_length(stretch: &[u8; STRETCH]) -> usize {
     // No length above MESSAGE: the other bytes of the length are 0.
     usize::from(stretch[0])
+}
+
+/// Whether a byte behind the first `length` is not zero. A length above 32 has none behind it; order
+/// 5, 6 or 7 refuses it.
+fn has_dirty_tail(length: usize, bytes: &[u8; MESSAGE]) -> bool {
+    bytes.iter().skip(length).any(|&byte| byte != 0)
 }
 
 fn zero_filled(message: &[u8]) -> [u8; MESSAGE] {

@@ -309,6 +309,9 @@ impl Generator<'_> {
             if self.maker.random.percent(3) {
                 return self.maker.any_call(row);
             }
+            if KINDS[row].1 == "snd_mbf" && self.maker.random.percent(8) {
+                return self.maker.dirty_send();
+            }
             if let Some(call) = self.maker.likely_good(row) {
                 return call;
             }

@@ -1,4 +1,5 @@
-//! How often each answer, ended wait and refusal occurred, so that what is missing shows.
+//! How often each answer, ended wait, refusal and tail of a send occurred, so that what is missing
+//! shows.
 
 use std::collections::BTreeMap;
 use std::fmt::Write;
@@ -18,6 +19,12 @@ pub struct Tally {
     /// By the wait, its code and the call that ended it.
     ended: BTreeMap<(&'static str, &'static str, usize), u64>,
     notes: BTreeMap<&'static str, u64>,
+    /// Sends by their tail and the answer if it were clean.
+    tails: BTreeMap<(&'static str, &'static str), u64>,
+    /// Sends that were carried out, from msgsz 1 on.
+    carried_out: [u64; MESSAGE],
+    /// Dirty tails that were refused, from msgsz 1 on.
+    dirty: [u64; MESSAGE - 1],
 }
 
 /// Every pair of call and refusal that the table allows.
@@ -54,6 +61,18 @@ const BY_NUMBER: [&str; 13] = [
     "snd_mbf", "rcv_mbf", "del_mpf", "get_mpf", "rel_mpf",
 ];
 
+/// Tails of sends, each with the answers that have to occur if it were clean. Where no task runs
+/// sends have any bytes, so mostly several behind the message. The last two are clean: no byte is
+/// behind 32 or more.
+const TAILS: [(&str, &[&str]); 6] = [
+    ("first byte behind alone", &["0", "waits", "E_ID", "E_NOEXS"]),
+    ("last byte alone", &["0", "waits", "E_ID", "E_NOEXS"]),
+    ("another byte alone", &["0", "waits", "E_ID", "E_NOEXS"]),
+    ("several bytes", &["0", "waits", "E_CTX", "E_PAR", "E_ID", "E_NOEXS"]),
+    ("none, the last of 32 nonzero", &["0", "waits"]),
+    ("none, msgsz above 32", &["E_PAR", "E_ID", "E_NOEXS"]),
+];
+
 impl Tally {
     /// Counts a script by how it ends.
     pub fn script(&mut self, end: &'static str) {
@@ -64,12 +83,8 @@ impl Tally {
     pub fn record(&mut self, before: &Kernel, call: &Call, out: &Outcome, after: &Kernel) {
         let row = call.row();
         self.records += 1;
-        let answer = match out.answer {
-            Answer::Code(code) => name(code),
-            Answer::Waits => "waits",
-            Answer::Exited => "exited",
-        };
-        *self.answers.entry((row, answer)).or_default() += 1;
+        *self.answers.entry((row, answer_name(out.answer))).or_default() += 1;
+        self.tail(before, call, out.answer);
         for ended in &out.ended {
             let wait = match before.task(ended.task).place {
                 Place::Locking(_) => "loc_mtx",
@@ -100,6 +115,25 @@ impl Tally {
         self.note("a circle of three or more stands", circle > 2);
         self.note("a circle begins", circle > 0 && circle_members(before) == 0);
         self.note("a circle ends", circle == 0 && circle_members(before) > 0);
+    }
+
+    /// Counts a send by the bytes behind its message.
+    fn tail(&mut self, before: &Kernel, call: &Call, answer: Answer) {
+        let Call::SndMbf { buffer, msgsz: msgsz @ 1.., timeout, mut bytes } = *call else { return };
+        let length = msgsz as usize;
+        if let Answer::Code(E_OK) | Answer::Waits = answer {
+            self.carried_out[length - 1] += 1;
+        }
+        let Some(tail) = tail_name(length, &bytes) else { return };
+        if let Some(count) = self.dirty.get_mut(length - 1) {
+            // A dirty tail that was let pass does not count.
+            let Answer::Code(E_PAR | E_CTX) = answer else { return };
+            *count += 1;
+        }
+        bytes.iter_mut().skip(length).for_each(|byte| *byte = 0);
+        let mut out = Outcome::default();
+        before.clone().run(&Call::SndMbf { buffer, msgsz, timeout, bytes }, &mut out);
+        *self.tails.entry((tail, answer_name(out.answer))).or_default() += 1;
     }
 
     /// Counts a waiter that was served for what brought it to the front of its queue.
@@ -142,11 +176,21 @@ impl Tally {
             }
             let _ = writeln!(text);
         }
+        let _ = writeln!(text, "tails of sends: nonzero bytes, answers if they were zero");
+        for (tail, _) in TAILS {
+            let _ = write!(text, "  {tail}:");
+            for ((_, answer), count) in self.tails.iter().filter(|(key, _)| key.0 == tail) {
+                let _ = write!(text, " {answer} {count}");
+            }
+            let _ = writeln!(text);
+        }
+        let _ = writeln!(text, "  carried out, from msgsz 1 on: {:?}", self.carried_out);
+        let _ = writeln!(text, "  dirty, from msgsz 1 on: {:?}", self.dirty);
         let _ = writeln!(text, "ended waits: wait, code, by which call");
         for ((wait, code, row), count) in &self.ended {
             let _ = writeln!(text, "  {wait} {code:<8} {:<8} {count:>10}", KINDS[*row].1);
         }
-        let _ = writeln!(text, "refusals that did not occur");
+        let _ = writeln!(text, "refusals and tails that did not occur");
         for (code, calls) in REFUSALS {
             for call in calls {
                 let row = KINDS.iter().position(|kind| kind.1 == *call).unwrap_or(0);
@@ -154,6 +198,18 @@ impl Tally {
                     let _ = writeln!(text, "  {call} {}", name(code));
                 }
             }
+        }
+        for (tail, answers) in TAILS {
+            for answer in answers.iter().filter(|answer| !self.tails.contains_key(&(tail, answer)))
+            {
+                let _ = writeln!(text, "  tail {tail}: {answer}");
+            }
+        }
+        for msgsz in (1..=MESSAGE).filter(|msgsz| self.carried_out[msgsz - 1] == 0) {
+            let _ = writeln!(text, "  send of msgsz {msgsz} carried out");
+        }
+        for msgsz in (1..MESSAGE).filter(|msgsz| self.dirty[msgsz - 1] == 0) {
+            let _ = writeln!(text, "  dirty tail of msgsz {msgsz}");
         }
         text
     }
@@ -191,6 +247,28 @@ fn circle_members(kernel: &Kernel) -> usize {
         false
     };
     TaskNo::all().filter(in_circle).count()
+}
+
+/// What stands behind the message, as [`TAILS`] has it; none if that is nothing special.
+fn tail_name(length: usize, bytes: &[u8; MESSAGE]) -> Option<&'static str> {
+    let nonzero: Vec<usize> = (length..MESSAGE).filter(|&at| bytes[at] != 0).collect();
+    Some(match nonzero[..] {
+        [at] if at == length => "first byte behind alone",
+        [at] if at == MESSAGE - 1 => "last byte alone",
+        [_] => "another byte alone",
+        [_, ..] => "several bytes",
+        [] if length == MESSAGE && bytes[MESSAGE - 1] != 0 => "none, the last of 32 nonzero",
+        [] if length > MESSAGE && *bytes != [0; MESSAGE] => "none, msgsz above 32",
+        [] => return None,
+    })
+}
+
+fn answer_name(answer: Answer) -> &'static str {
+    match answer {
+        Answer::Code(code) => name(code),
+        Answer::Waits => "waits",
+        Answer::Exited => "exited",
+    }
 }
 
 fn name(code: i32) -> &'static str {

@@ -17,7 +17,7 @@ fn generated_scripts_check_out() {
         self_check(&script).unwrap_or_else(|what| panic!("script {index}: {what}"));
     }
     let report = tally.report();
-    assert!(report.ends_with("refusals that did not occur\n"), "{report}");
+    assert!(report.ends_with("refusals and tails that did not occur\n"), "{report}");
 }
 
 #[test]

@@ -4,7 +4,7 @@ mod common;
 
 use common::*;
 use reference::limits::*;
-use reference::{run_record, Answer, Call, Kernel};
+use reference::{run_record, Answer, Call, Got, Kernel};
 
 /// Tasks: 1 (8) runs, 2 is dormant, 3 (4) waits to receive from buffer 2, 4 (10) is ready, 5 (12)
 /// waits for mutex 5, 6 and above are absent. Mutexes: 1 free, 2 held by the caller, 3 by task 3,
@@ -63,6 +63,18 @@ fn nobody_runs(mut test: TestKernel) -> TestKernel {
     test
 }
 
+/// A send of these bytes that does not wait.
+fn send(buffer: i32, msgsz: i32, bytes: [u8; MESSAGE]) -> Call {
+    Call::SndMbf { buffer, msgsz, timeout: 0, bytes }
+}
+
+/// As [`snd_mbf`], but with another byte at the place, counted from 0.
+fn soiled(buffer: i32, msgsz: i32, timeout: i32, place: usize, byte: u8) -> Call {
+    let mut bytes = message(msgsz as usize);
+    bytes[place] = byte;
+    Call::SndMbf { buffer, msgsz, timeout, bytes }
+}
+
 const OUT_OF_RANGE: [i32; 6] = [0, -1, 257, 65_537, i32::MIN, i32::MAX];
 
 #[track_caller]
@@ -86,10 +98,10 @@ fn order_2_nobody_runs() {
             del_mtx(9), loc_mtx(1, 0), loc_mtx(1, -2), loc_mtx(9, 0), loc_mtx(8, 0), unl_mtx(1),
             unl_mtx(9), cre_mbf(0, 8, 8), cre_mbf(2, 0, 1), cre_mbf(0, -1, 1), cre_mbf(0, 257, 1),
             del_mbf(1), del_mbf(5), snd_mbf(1, 1, 0), snd_mbf(1, 0, 0), snd_mbf(5, 1, 0),
-            snd_mbf(1, 1, -2), rcv_mbf(1, 0), rcv_mbf(1, -2), rcv_mbf(5, 0), cre_mpf(0, 1, 1),
-            cre_mpf(2, 1, 1), cre_mpf(0, MOST_BLOCKS + 1, 1), cre_mpf(0, MOST_BLOCKS, 256),
-            del_mpf(1), del_mpf(5), get_mpf(1, 0), get_mpf(1, -2), get_mpf(5, 0), rel_mpf(1, 1),
-            rel_mpf(5, 1),
+            snd_mbf(1, 1, -2), soiled(1, 1, 0, 1, 1), soiled(5, 1, 0, 31, 1), rcv_mbf(1, 0),
+            rcv_mbf(1, -2), rcv_mbf(5, 0), cre_mpf(0, 1, 1), cre_mpf(2, 1, 1),
+            cre_mpf(0, MOST_BLOCKS + 1, 1), cre_mpf(0, MOST_BLOCKS, 256), del_mpf(1), del_mpf(5),
+            get_mpf(1, 0), get_mpf(1, -2), get_mpf(5, 0), rel_mpf(1, 1), rel_mpf(5, 1),
         ]);
         test.ok(Call::Tick);
     }
@@ -160,6 +172,69 @@ fn order_4_from_the_call_alone() {
             cre_mpf(0, MOST_BLOCKS + 1, 256), cre_mpf(0, MOST_BLOCKS, 0),
             cre_mpf(0, MOST_BLOCKS, 257), cre_mpf(0, -1, -1),
         ]);
+    }
+}
+
+/// Request Two of 02: every place behind every message, with orders 5, 6, 7 and 11 as well.
+#[test]
+fn order_4_dirty_tails() {
+    for mut test in [plain(), full()] {
+        for msgsz in 1..MESSAGE {
+            for place in msgsz..MESSAGE {
+                for (buffer, byte) in [(1, 1), (2, 0x80), (3, 0xFF), (4, 1), (0, 1), (5, 1)] {
+                    for timeout in [0, -1, -2] {
+                        let call = soiled(buffer, msgsz as i32, timeout, place, byte);
+                        all(&mut test, E_PAR, &[call]);
+                    }
+                }
+            }
+        }
+        // No zero behind the message; inside it none either, or zeros only.
+        for msgsz in 1..MESSAGE as i32 {
+            let behind = std::array::from_fn(|i| u8::from(i >= msgsz as usize));
+            for bytes in [message(MESSAGE), behind] {
+                all(&mut test, E_PAR, &[send(1, msgsz, bytes), send(2, msgsz, bytes)]);
+            }
+        }
+    }
+    // The receiver at buffer 2 still waits, and gets the next clean message.
+    let mut test = plain();
+    all(&mut test, E_PAR, &[soiled(2, 1, 0, 1, 9), soiled(2, 1, 0, 31, 9)]);
+    test.ok(snd_mbf(2, 1, 0));
+    assert_eq!(test.ended(), [(3, 1)]);
+    assert_eq!(test.out.ended[0].got, Got::Message(message(1)));
+}
+
+/// Every place inside every message, alone: that is no tail.
+#[test]
+fn order_4_clean_tails() {
+    let mut test = TestKernel::new();
+    test.code(cre_mbf(0, 36, 32));
+    for msgsz in 1..=MESSAGE {
+        let mut messages = vec![[0; MESSAGE], message(msgsz)];
+        for place in 0..msgsz {
+            messages.push(std::array::from_fn(|i| if i == place { 0xFF } else { 0 }));
+        }
+        for bytes in messages {
+            test.ok(send(1, msgsz as i32, bytes));
+            assert_eq!(test.kernel.next_message(1), &bytes[..msgsz]);
+            assert_eq!(test.code(rcv_mbf(1, 0)), msgsz as i32);
+            assert_eq!(test.out.got, Got::Message(bytes));
+        }
+    }
+}
+
+/// Nothing is behind a msgsz above all bytes: the later orders decide, whatever the bytes are.
+#[test]
+fn no_tail_behind_more_than_all_bytes() {
+    let last = std::array::from_fn(|i| u8::from(i == MESSAGE - 1));
+    for msgsz in [33, 34, 257, 65_537, i32::MAX] {
+        for bytes in [[0; MESSAGE], [0xFF; MESSAGE], message(1), last] {
+            let mut test = plain();
+            all(&mut test, E_PAR, &[send(1, msgsz, bytes), send(2, msgsz, bytes)]);
+            all(&mut test, E_NOEXS, &[send(3, msgsz, bytes), send(4, msgsz, bytes)]);
+            all(&mut test, E_ID, &[send(0, msgsz, bytes), send(5, msgsz, bytes)]);
+        }
     }
 }
 
@@ -316,7 +391,15 @@ fn order_11_would_wait() {
 
 #[test]
 fn order_1_comes_before_all() {
-    let calls = [Call::Tick, Call::ExtTsk, cre_tsk(0), cre_mtx(4, 0), del_tsk(0), loc_mtx(1, -2)];
+    let calls = [
+        Call::Tick,
+        Call::ExtTsk,
+        cre_tsk(0),
+        cre_mtx(4, 0),
+        del_tsk(0),
+        loc_mtx(1, -2),
+        soiled(1, 1, 0, 1, 1),
+    ];
     for test in [TestKernel::new(), plain(), nobody_runs(full())] {
         let valid = test.kernel.to_words();
         for call in calls {

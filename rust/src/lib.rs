@@ -46,8 +46,8 @@ pub fn fresh(state: &mut [u32], store: &mut [u8], outbox: &mut [u8]) -> Result<(
 }
 
 /// One call of the task that runs, by its kind (`TK_..`) and fields in the manual's order; fields that the call has not are not looked
-/// at. The message is that of `TK_SND_MBF`: as many bytes of it count as its second field says, with zeros where there are fewer, and no
-/// byte behind the first `MESSAGE_BYTES`.
+/// at. The message is that of `TK_SND_MBF`: as many bytes of it are sent as its second field says, with zeros where there are fewer. With a
+/// byte behind them that is not zero the call is refused (`E_PAR`); no byte behind the first `MESSAGE_BYTES` is looked at.
 ///
 /// Gives what comes of it, and the front part of the log area, which tells what happened ([`log::items`]); the rest of that area stays.
 /// A negative code leaves the other areas as they came. `E_SYS` also says that an area has another length, or that the

@@ -227,6 +227,23 @@ fn a_message_of_any_length_may_be_sent() {
     assert_eq!(kernel.next_message(1), Some(&[0; 3][..]));
 }
 
+#[test]
+fn behind_a_message_no_byte_but_zeros_may_be_handed_over() {
+    let mut kernel = Kernel::new();
+    assert_eq!(kernel.cre_mbf(TA_TFIFO, 256, 32), Outcome::Answered(1));
+    let mut bytes = [0; MESSAGE_BYTES + 1];
+    for at in 1..MESSAGE_BYTES {
+        bytes[at] = 7;
+        let before = kernel.clone();
+        assert_eq!(kernel.call(TK_SND_MBF, [1, 1, TMO_POL], &bytes), Outcome::Answered(E_PAR));
+        assert!(same(&kernel, &before));
+        bytes[at] = 0;
+    }
+    // A byte behind the 32 is not looked at.
+    bytes[MESSAGE_BYTES] = 7;
+    assert_eq!(kernel.call(TK_SND_MBF, [1, 1, TMO_POL], &bytes), Outcome::Answered(E_OK));
+}
+
 /// A call by its name, and what its record has.
 type Named = (fn(&mut Kernel) -> Outcome, u8, &'static [i32], &'static [u8]);
 

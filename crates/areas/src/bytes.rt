@@ -5,7 +5,7 @@ ghost use lib.ListN.{take, drop};
 ghost use Rattle.model.specs.Lists.{allZero};
 
 // Every byte is looked at, also behind one that is not zero: without a way out of the loop many are compared at once.
-pub(crate) fn all_zero(bytes: &[u8]) -> bool
+pub fn all_zero(bytes: &[u8]) -> bool
     ensures { λ r. ⌜ r ≡ allZero (now (bytes .entry)) ⌝ }
 {
     let mut zero = true;
@@ -16,14 +16,14 @@ pub(crate) fn all_zero(bytes: &[u8]) -> bool
 }
 
 // The first n bytes, and those behind them.
-pub(crate) fn first<'a>(bytes: &'a [u8], n: usize) -> &'a [u8]
+pub fn first<'a>(bytes: &'a [u8], n: usize) -> &'a [u8]
     ensures { λ r. ⌜ now r ≡ take n (now (bytes .entry)) ⌝ }
 {
     let e = least(n, bytes.len());
     &bytes[..e]
 }
 
-pub(crate) fn behind<'a>(bytes: &'a [u8], n: usize) -> &'a [u8]
+pub fn behind<'a>(bytes: &'a [u8], n: usize) -> &'a [u8]
     ensures { λ r. ⌜ now r ≡ drop n (now (bytes .entry)) ⌝ }
 {
     let a = least(n, bytes.len());

@@ -1,5 +1,5 @@
 -- snd_mbf, in the order of the code's steps.
-use Rattle.model.proofs.Terms.{ℕ, _+_, _≤_, _<_, min, arith, _≡_, _∙_, refl, sym, ap, _≢_, Bool, true, false, not, none, List, [], _∷_, _++_, length, take, length-take, ℤ, pos, negsuc, ltZ, leZ, leb, eq-eqb, ne-eqb, lt-ltb, le-ltb, not-true, not-false, buffers, messageBytes, _!_, zeros, E-OK, E-PAR, E-ID, E-NOEXS, E-TMOUT, number, sending, receiving, queue, Kernel, withOutbox, queueFront, headsQueue, running, Nothing, Message, handed, cost, withOutboxMessage, wait, endWait, fits, storeMessage, badTimeout, badNumber, noSuch, noTime, storable, sendWaits, sndMbfRefusals, Refusal, refuse, firstRefusal, sndMbf, kernel, wordCount, answerBytes, Areas}
+use Rattle.model.proofs.Terms.{ℕ, _+_, _≤_, _<_, min, arith, _≡_, _∙_, refl, sym, ap, _≢_, Bool, true, false, _&&_, not, none, List, [], _∷_, _++_, length, take, drop, length-take, ℤ, pos, negsuc, ltZ, leZ, leb, eq-eqb, ne-eqb, lt-ltb, le-ltb, not-true, not-false, buffers, messageBytes, _!_, zeros, allZero, E-OK, E-PAR, E-ID, E-NOEXS, E-TMOUT, number, sending, receiving, queue, Kernel, withOutbox, queueFront, headsQueue, running, Nothing, Message, handed, cost, withOutboxMessage, wait, endWait, fits, storeMessage, badTimeout, dirtyTail, badNumber, noSuch, noTime, outside, storable, sendWaits, sndMbfRefusals, Refusal, refuse, firstRefusal, sndMbf, kernel, wordCount, answerBytes, Areas}
 use mathlib.Core.Bool.{and-eq-true-iff}
 use lib.Seq.{take-all, take-take, take-append-le}
 use Rattle.model.specs.Number.{fieldNumber, maybeTask, maybeBuffer}
@@ -13,6 +13,7 @@ use Rattle.model.specs.declared.call.Answer.the-variants.{Code, Waits}
 use Rattle.model.proofs.NumberLaws.{bufferKind, task-is, task-is-none}
 use Rattle.model.proofs.ByCase.{send-over, send-stored, send-waits}
 use Rattle.message.proofs.Parts.{take-least, length-padded}
+use Rattle.message.proofs.Layouts.{padded-behind}
 use Rattle.script.specs.Place.{Appends, placed}
 use Rattle.script.proofs.Padding.{padded-placed}
 use Rattle.act.specs.Held.{areas, DoesInWords, DoesInStore, DoesInLog}
@@ -55,6 +56,16 @@ module _ (k : Kernel) (b n : ℕ) {x : ℕ} (x-is : x ≡ b) {found : MaybeTask}
   unfolding sendWaits
   waits-unstored e r-is = rw (eq-eqb (queueFront k (queue receiving b)) 0 (rw x-is at (task-is-none _ (sym from ∙ e))), r-is)
 
+-- ---- a nonzero byte behind the message
+
+-- the test as the code makes it
+pub tail-tests : (msgsz : ℤ) (bytes : List ℕ) {y : ℤ} {n : ℕ} {own tail : List ℕ} {z : ℤ} {wide clean : Bool} → y ≡ msgsz → n ≡ number y
+    → own ≡ take messageBytes bytes → tail ≡ drop n own → z ≡ msgsz → wide ≡ outside (pos 1) (pos messageBytes) z → clean ≡ allZero tail
+    → not wide && not clean ≡ dirtyTail msgsz (handed bytes) .applies
+unfolding dirtyTail handed
+tail-tests msgsz bytes y-is n-is own-is tail-is z-is wide-is clean-is =
+    rw (wide-is, z-is, clean-is, tail-is, own-is, n-is, y-is, ← padded-behind (number msgsz) messageBytes bytes)
+
 -- ---- the first refusal
 
 longer : (m : ℕ) (msgsz : ℤ) → m < number msgsz → ltZ (pos m) msgsz ≡ true
@@ -68,6 +79,9 @@ not-longer m (negsuc n) h = refl
 module _ (k : Kernel) (buffer msgsz timeout : ℤ) (bytes : List ℕ) where
   abbrev empty : Refusal
   empty = refuse 4 E-PAR (leZ msgsz (pos 0))
+
+  abbrev dirty : Refusal
+  dirty = dirtyTail msgsz bytes
 
   abbrev long : Refusal
   long = refuse 7 E-PAR (ltZ (pos (k .buffers .maxmsz ! number buffer)) msgsz)
@@ -84,39 +98,54 @@ module _ (k : Kernel) (buffer msgsz timeout : ℤ) (bytes : List ℕ) where
   module _ {a : ℤ} (a-is : a ≡ timeout) {r : Bool} (r-is : r ≡ badTimeout a .applies) where
     pub send-timeout : r ≡ true → Answers (Refused E-PAR)
     unfolding sndMbfRefusals
-    send-timeout e = timeout-refused timeout a-is r-is (empty ∷ named) e
+    send-timeout e = timeout-refused timeout a-is r-is (empty ∷ dirty ∷ named) e
 
     module _ (fine : r ≡ false) {l : ℤ} (l-is : l ≡ msgsz) where
-      after-timeout : {v : Verdict} → v ≡ verdict (firstRefusal (empty ∷ named)) → Answers v
+      after-timeout : {v : Verdict} → v ≡ verdict (firstRefusal (empty ∷ dirty ∷ named)) → Answers v
       unfolding sndMbfRefusals
-      after-timeout f = timeout-later timeout a-is r-is (empty ∷ named) fine f
+      after-timeout f = timeout-later timeout a-is r-is (empty ∷ dirty ∷ named) fine f
 
       pub send-empty : leZ l (pos 0) ≡ true → Answers (Refused E-PAR)
-      send-empty e = after-timeout (refused-here empty named (rw l-is at e))
+      send-empty e = after-timeout (refused-here empty (dirty ∷ named) (rw l-is at e))
 
-      module _ (some-bytes : leZ l (pos 0) ≡ false) {x : ℤ} (x-is : x ≡ buffer) {found : MaybeBuffer} (from : found ≡ maybeBuffer (fieldNumber x buffers)) where
+      module _ (some-bytes : leZ l (pos 0) ≡ false) {d : Bool} (d-is : d ≡ dirtyTail l bytes .applies) where
+        after-empty : {v : Verdict} → v ≡ verdict (firstRefusal (dirty ∷ named)) → Answers v
+        after-empty f = after-timeout (refused-later empty (dirty ∷ named) (rw l-is at some-bytes) f)
+
+        dirty-is : dirty .applies ≡ d
+        dirty-is = sym (rw l-is at d-is)
+
+        pub send-dirty : d ≡ true → Answers (Refused E-PAR)
+        unfolding dirtyTail
+        send-dirty e = after-empty (refused-here dirty named (dirty-is ∙ e))
+
+        after-clean : d ≡ false → {v : Verdict} → v ≡ verdict (firstRefusal named) → Answers v
+        after-clean clean f = after-empty (refused-later dirty named (dirty-is ∙ clean) f)
+
+      module _ (some-bytes : leZ l (pos 0) ≡ false) {d : Bool} (d-is : d ≡ dirtyTail l bytes .applies) (clean : d ≡ false)
+          {x : ℤ} (x-is : x ≡ buffer) {found : MaybeBuffer} (from : found ≡ maybeBuffer (fieldNumber x buffers)) where
         made : found ≡ maybeBuffer (fieldNumber buffer buffers)
         made = rw x-is at from
 
-        after-empty : {v : Verdict} → v ≡ verdict (firstRefusal named) → Answers v
-        after-empty f = after-timeout (refused-later empty named (rw l-is at some-bytes) f)
+        after-tail : {v : Verdict} → v ≡ verdict (firstRefusal named) → Answers v
+        after-tail f = after-clean some-bytes d-is clean f
 
         pub send-numberless : found ≡ NoBuffer → Answers (Refused E-ID)
-        send-numberless e = after-empty (number-refused bufferKind buffer made (noSuch (k .buffers .exists) buffer ∷ long ∷ late ∷ []) e)
+        send-numberless e = after-tail (number-refused bufferKind buffer made (noSuch (k .buffers .exists) buffer ∷ long ∷ late ∷ []) e)
 
         module _ {b : BufferNumber} (some : found ≡ Buffer b) {v : ℕ} (v-is : v ≡ k .buffers .exists ! (b .0)) where
           is-buffer : number buffer ≡ b .0
           is-buffer = numbered bufferKind buffer made some .1
 
           pub send-missing : v ≡ 0 → Answers (Refused E-NOEXS)
-          send-missing e = after-empty (missing-refused bufferKind buffer made (k .buffers .exists) (long ∷ late ∷ []) some v-is e)
+          send-missing e = after-tail (missing-refused bufferKind buffer made (k .buffers .exists) (long ∷ late ∷ []) some v-is e)
 
           module _ (there : v ≢ 0) {y : ℤ} (y-is : y ≡ msgsz) {n : ℕ} (n-is : n ≡ number y) {m : ℕ} (m-is : m ≡ k .buffers .maxmsz ! (b .0)) where
             size : n ≡ number msgsz
             size = rw y-is at n-is
 
             later : {v : Verdict} → v ≡ verdict (firstRefusal (long ∷ late ∷ [])) → Answers v
-            later e = after-empty (there-later bufferKind buffer made (k .buffers .exists) (long ∷ late ∷ []) some v-is there e)
+            later e = after-tail (there-later bufferKind buffer made (k .buffers .exists) (long ∷ late ∷ []) some v-is there e)
 
             pub send-long : m < n → Answers (Refused E-PAR)
             send-long h = later (refused-here long (late ∷ []) (rw (is-buffer, ← m-is) (longer m msgsz (rw size at h))))
@@ -229,7 +258,7 @@ sends-as b m timeout m-is t-is f = rw (← t-is, ← m-is) f
 module _ (buffer : ℤ) {x : ℤ} (x-is : x ≡ buffer) {found : MaybeBuffer} (from : found ≡ maybeBuffer (fieldNumber x buffers)) where
   pub send-named : (k : Kernel) (msgsz timeout : ℤ) (bytes : List ℕ) → firstRefusal (sndMbfRefusals k buffer msgsz timeout bytes) ≡ none → found ≡ NoBuffer → ⊥
   unfolding sndMbfRefusals badNumber
-  send-named k msgsz timeout bytes e g = never-unnumbered bufferKind buffer (rw x-is at from) (sndMbfRefusals k buffer msgsz timeout bytes) 2 e refl g
+  send-named k msgsz timeout bytes e g = never-unnumbered bufferKind buffer (rw x-is at from) (sndMbfRefusals k buffer msgsz timeout bytes) 3 e refl g
 
   pub sends : {b : BufferNumber} → found ≡ Buffer b → (m : List ℕ) (timeout : ℤ) {m' : List ℕ} {t : ℤ} → m' ≡ m → t ≡ timeout
       → {caller : ℕ} {a c : Areas} {at : ℕ} {y : Reply} → Carries caller (λ w. sndMbf w (b .0) m' t) a at c y

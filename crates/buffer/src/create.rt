@@ -30,7 +30,7 @@ ghost use Rattle.reply.specs.Replies.{verdict, CarriesInWords};
 ghost use Rattle.buffer.specs.Rows.{bufferRow};
 
 // The longest message and the largest size that can be asked for.
-const LONGEST_MESSAGE: i32 = MESSAGE_BYTES as i32;
+pub(crate) const LONGEST_MESSAGE: i32 = MESSAGE_BYTES as i32;
 
 const LARGEST_SIZE: i32 = REGION_BYTES as i32;
 

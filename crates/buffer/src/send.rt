@@ -1,6 +1,10 @@
 // snd_mbf: a message goes to the first receiver, into the buffer, or waits in the outbox.
+use super::create::LONGEST_MESSAGE;
 use act::wait::end_wait_message;
 use act::wait::wait;
+use areas::bytes::all_zero;
+use areas::bytes::behind;
+use areas::bytes::first;
 use message::copy::least;
 use message::outbox::outbox_put;
 use message::room::fits;
@@ -23,6 +27,7 @@ use reply::Verdict;
 use reply::field::bad_timeout;
 use reply::field::code;
 use reply::field::no_time;
+use reply::field::outside;
 use script::log::log_answer;
 use script::place::put;
 use state::buffer::exists;
@@ -41,7 +46,7 @@ ghost use Rattle.model.specs.Facts.{queue, receiving};
 ghost use Rattle.model.specs.World.{queueFront, running};
 ghost use Rattle.model.specs.Message.{handed};
 ghost use Rattle.model.specs.Act.{fits as fitsIn};
-ghost use Rattle.model.specs.Refusal.{firstRefusal, storable as storableIn, sendWaits, sndMbfRefusals};
+ghost use Rattle.model.specs.Refusal.{dirtyTail, firstRefusal, storable as storableIn, sendWaits, sndMbfRefusals};
 ghost use Rattle.model.specs.Effect.{sndMbf};
 ghost use Rattle.model.specs.Words.{wordCount, kernel};
 ghost use Rattle.act.specs.Held.{areas};
@@ -75,6 +80,15 @@ fn send_waits(state: &[u32], caller: TaskNumber, b: BufferNumber, n: u32) -> boo
     }
 }
 
+// 02, request Two: "msgsz 1 to 32 and a nonzero byte after the first msgsz of its 32". What is not handed over counts as zero.
+fn dirty_tail(msgsz: i32, message: &[u8]) -> bool
+    ensures { λ r. ⌜ r ≡ dirtyTail msgsz (handed (now (message .entry))) .applies ⌝ }
+{
+    let n = natural(msgsz) as usize;
+    let tail = behind(first(message, MESSAGE_BYTES), n);
+    !outside(1, LONGEST_MESSAGE, msgsz) & !all_zero(tail)
+}
+
 pub fn refuse_snd_mbf(
     state: &[u32],
     caller: TaskNumber,
@@ -91,6 +105,9 @@ pub fn refuse_snd_mbf(
         return Verdict::Refused(E_PAR);
     }
     if msgsz <= 0 {
+        return Verdict::Refused(E_PAR);
+    }
+    if dirty_tail(msgsz, message) {
         return Verdict::Refused(E_PAR);
     }
     let found = BufferNumber::from_field(buffer);

@@ -82,7 +82,7 @@ module _ {x : Lent} (s : Steady 0 (begun x)) where
   unfolding perform refusals sndMbfRefusals nobodyRuns badTimeout badNumber noSuch
   sends-message buffer msgsz timeout bytes e =
       let passed = none-applies (refusals k (SndMbf buffer msgsz timeout) bytes) e in
-      sent buffer timeout (eqb-false _ 0 (passed 0)) (in-range buffers buffer (passed 3) .1) msgsz (take (number msgsz) (handed bytes)) (ℕ-discrete _ 0) _ refl
+      sent buffer timeout (eqb-false _ 0 (passed 0)) (in-range buffers buffer (passed 4) .1) msgsz (take (number msgsz) (handed bytes)) (ℕ-discrete _ 0) _ refl
 
   pub receives-message : (buffer timeout : ℤ) → Enters x (RcvMbf buffer timeout)
   unfolding perform refusals rcvMbfRefusals nobodyRuns badTimeout badNumber noSuch

@@ -7,16 +7,17 @@ use mathlib.Core.List.{List, [], _∷_, _++_, map, append-assoc}
 use mathlib.Core.Path.{_≡_, _∙_, refl, sym, ap, subst}
 use lib.Dec.{eqb, leb}
 use lib.ListN.{length, getD, take, drop, length-append, length-drop, length-replicate, take-append-drop}
-use lib.Seq.{take-at, drop-at, take-take, take-add, length-take-le}
+use lib.Seq.{drop-nil, take-at, drop-at, take-take, take-add, length-take-le}
 use borrow.Author.Tests.{eqb-true, ne-eqb, leb-true, le-leb}
 use Rattle.model.specs.Sizes.{regionBytes}
-use Rattle.model.specs.Lists.{joined, zeros, allZero, within}
+use Rattle.model.specs.Lists.{joined, zeros, padded, allZero, within}
 use Rattle.model.specs.Code.{bytes4, number4}
 use Rattle.model.specs.Message.{roundedUp, cost, packed, oldestLength, oldest}
 use Rattle.model.specs.Valid.{From, Layout, layout}
+use Rattle.model.proofs.ListLaws.{take-zeros}
 use Rattle.message.proofs.Contents.{totalCost}
 use Rattle.message.proofs.Messages.{length-packed, oldestLength-packed, behind-packed}
-use Rattle.message.proofs.Regions.{cost-above, length-joined, total-few}
+use Rattle.message.proofs.Regions.{cost-above, length-joined, drop-zeros, total-few}
 
 -- ---- tests
 
@@ -32,6 +33,16 @@ zeros-allZero (x ∷ r) e =
 allZero-zeros : (k : ℕ) → allZero (zeros k) ≡ true
 allZero-zeros zero = refl
 allZero-zeros (suc k) = allZero-zeros k
+
+filled-behind : (n p q : ℕ) (m : List ℕ) → p ≤ q → allZero (drop n (take p (m ++ zeros q))) ≡ allZero (drop n (take p m))
+filled-behind n zero q m h = refl
+filled-behind n (suc p) q [] h = rw (take-zeros (suc p) q h, drop-nil, drop-zeros n (suc p)) (allZero-zeros (suc p - n))
+filled-behind zero (suc p) q (x ∷ m) h = ap (λ (b : Bool). eqb 0 x && b) (filled-behind zero p q m (omega arith))
+filled-behind (suc n) (suc p) q (x ∷ m) h = filled-behind n p q m (omega arith)
+
+-- whether only zeros lie behind the first n is seen without the padding
+pub padded-behind : (n p : ℕ) (m : List ℕ) → allZero (drop n (padded p m)) ≡ allZero (drop n (take p m))
+padded-behind n p m = filled-behind n p p m (omega arith)
 
 -- ---- the first message
 

@@ -31,7 +31,7 @@ unfoldable pub use Rattle.model.specs.Message.{handed, over, overwritten
 pub use Rattle.model.specs.Message.{roundedUp}
 unfoldable pub use Rattle.model.specs.Act.{arrive, recomputeIf, settled, wait, leaveKernel, leaveOutbox, leave, endWait, endWaits, release, releaseAll, becomeDormant, fits, storeMessage, sendersMessage, firstFits, storeFirst, drain, unused}
 pub use Rattle.model.specs.Act.{millis, serve}
-unfoldable pub use Rattle.model.specs.Refusal.{nobodyRuns, badAttribute, badTimeout, badField, badNumber, noSuch, handedOut, chosenTask, chosenBase, aboveCeiling, noneFree, poolSum, noTime, lockWaits, storable, sendWaits, receiveWaits, freeBlock, creTskRefusals, dormantRefusals, terTskRefusals, chgPriRefusals, creMtxRefusals, locMtxRefusals, unlMtxRefusals, creMbfRefusals, sndMbfRefusals, rcvMbfRefusals, creMpfRefusals, getMpfRefusals, relMpfRefusals, deletionRefusals, refusals}
+unfoldable pub use Rattle.model.specs.Refusal.{nobodyRuns, badAttribute, badTimeout, badField, dirtyTail, badNumber, noSuch, handedOut, chosenTask, chosenBase, aboveCeiling, noneFree, poolSum, noTime, lockWaits, storable, sendWaits, receiveWaits, freeBlock, creTskRefusals, dormantRefusals, terTskRefusals, chgPriRefusals, creMtxRefusals, locMtxRefusals, unlMtxRefusals, creMbfRefusals, sndMbfRefusals, rcvMbfRefusals, creMpfRefusals, getMpfRefusals, relMpfRefusals, deletionRefusals, refusals}
 pub use Rattle.model.specs.Refusal.{Refusal, refuse, firstRefusal, outside, mutexAttributes, bufferAttributes, poolAttributes}
 unfoldable pub use Rattle.model.specs.Effect.{creTsk, delTsk, staTsk, extTsk, terTsk, rejoin, chgPri, creMtx, delMtx, locMtx, unlMtx, creMbf, delMbf, sndMbf, takeOldest, rcvMbf, creMpf, delMpf, getMpf, relMpf, tickTask, tick, perform, effect}
 pub use Rattle.model.specs.Effect.{Done, answered, succeeds, waits}

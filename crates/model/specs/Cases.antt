@@ -1,10 +1,10 @@
--- 01, "On both sides of the mark": every bullet that has a [P], whole, and beside them a case for sentences that no bullet holds, as one table under one
--- statement, proved by computing.
+-- 01, "On both sides of the mark": every bullet that has a [P], whole, and beside them a case for sentences that no bullet holds, and both sides of 02's request Two, as
+-- one table under one statement, proved by computing.
 use Prim.Native.Nat.{ℕ, suc, pred}
 use mathlib.Core.Path.{_≡_, refl}
 use mathlib.Core.Bool.{true}
 use mathlib.Core.List.{List, [], _∷_, _++_, map, foldl}
-use lib.ListN.{length}
+use lib.ListN.{length, getD}
 use lib.IntN.{ℤ, pos}
 use Rattle.model.specs.declared.call.Call.{Call}
 use Rattle.model.specs.declared.call.Call.the-variants.{CreTsk, StaTsk, ChgPri, CreMtx, LocMtx, UnlMtx, CreMbf, DelMbf, SndMbf, RcvMbf, CreMpf, GetMpf, Tick}
@@ -12,10 +12,11 @@ use Rattle.model.specs.declared.call.Answer.{Answer}
 use Rattle.model.specs.declared.call.Answer.the-variants.{Code, Waits}
 use Rattle.model.specs.Sizes.{messageBytes, storeBytes, outboxBytes}
 use Rattle.model.specs.Lists.{_!_, upTo, zeros}
-use Rattle.model.specs.Code.{minus, E-OK, E-SYS, E-PAR, E-ILUSE, E-TMOUT, E-DLT}
+use Rattle.model.specs.Code.{minus, E-OK, E-SYS, E-PAR, E-NOEXS, E-ILUSE, E-TMOUT, E-DLT, number}
 use Rattle.model.specs.Kernel.{fresh}
 use Rattle.model.specs.World.{Lent, Delivery, Nothing, Message, Block, running}
 use Rattle.model.specs.Message.{part}
+use Rattle.model.specs.Record.{fieldsOf}
 use Rattle.model.specs.Valid.{valid}
 use Rattle.model.specs.Step.{Outcome, step, freshLent}
 use Rattle.model.specs.Lent.{Areas, withLog, notValid}
@@ -30,13 +31,13 @@ pub record Seen : Type 0 where
   pub delivered : List (ℕ × Delivery)
   pub numbers : List ℕ
 
--- A case: calls from the fresh state, the areas' lengths, the bytes that are handed over with each call, and what must be seen; `watched` says which
+-- A case: calls from the fresh state, the areas' lengths, the bytes that are handed over with a call, and what must be seen; `watched` says which
 -- numbers of what is lent.
 pub record Case : Type 0 where
   pub calls : List Call
   pub store : ℕ
   pub outbox : ℕ
-  pub bytes : List ℕ
+  pub bytes : Call → List ℕ
   pub watched : List (Lent → ℕ)
   pub seen : Seen
 
@@ -49,10 +50,10 @@ deliveredTo t (Block b) = (t, Block b) ∷ []
 abbrev pub deliveries : ℕ → Outcome → List (ℕ × Delivery)
 deliveries caller o = foldl (λ ds e. ds ++ deliveredTo (e .task) (e .delivery)) (deliveredTo caller (o .delivery)) (o .ended)
 
-abbrev pub happens : List ℕ → List (Lent → ℕ) → Lent → List Call → Seen
+abbrev pub happens : (Call → List ℕ) → List (Lent → ℕ) → Lent → List Call → Seen
 happens bytes watched x [] = record { answers = []; ended = []; delivered = []; numbers = map (λ f. f x) watched }
 happens bytes watched x (c ∷ cs) =
-    let o = step x c bytes in
+    let o = step x c (bytes c) in
     let s = happens bytes watched (o .lent) cs in
     record {
       answers = o .answer ∷ s .answers;
@@ -67,13 +68,16 @@ observed c = happens (c .bytes) (c .watched) (record { kernel = fresh; store = z
 abbrev pub seen : List Answer → List (ℕ × ℤ) → List (ℕ × Delivery) → List ℕ → Seen
 seen answers ended delivered numbers = record { answers = answers; ended = ended; delivered = delivered; numbers = numbers }
 
-abbrev pub caseWith : List ℕ → List Call → List (Lent → ℕ) → Seen → Case
+abbrev pub caseWith : (Call → List ℕ) → List Call → List (Lent → ℕ) → Seen → Case
 caseWith bytes calls watched s =
     record { calls = calls; store = storeBytes; outbox = outboxBytes; bytes = bytes; watched = watched; seen = s }
 
--- each send carries the bytes 1 to 32
+-- each send carries the bytes 1 to msgsz, which is its second field, and zeros behind them; bytes of other calls do not count
+abbrev pub sentBytes : Call → List ℕ
+sentBytes c = upTo (number (getD (fieldsOf c) 1 (pos 0)))
+
 abbrev pub case : List Call → List (Lent → ℕ) → Seen → Case
-case = caseWith (upTo messageBytes)
+case = caseWith sentBytes
 
 abbrev pub current : ℕ → Lent → ℕ
 current t x = x .kernel .tasks .current ! t
@@ -91,7 +95,7 @@ storeByte i x = x .store ! i
 abbrev pub outboxByte : ℕ → ℕ → Lent → ℕ
 outboxByte t i x = part messageBytes t (x .outbox) ! i
 
--- the first n of the bytes that each send carries
+-- the message of n bytes that a send carries
 abbrev pub message : ℕ → Delivery
 message n = Message (upTo n)
 
@@ -110,7 +114,8 @@ new n = Code (pos n)
 -- "msgsz -1, 0: -17."
 noMessage : Case
 noMessage =
-    case (CreMbf (pos 0) (pos 256) (pos 32) ∷ SndMbf (pos 1) (minus 1) forever ∷ SndMbf (pos 1) (pos 0) forever ∷ [])
+    caseWith (λ c. upTo messageBytes)
+    (CreMbf (pos 0) (pos 256) (pos 32) ∷ SndMbf (pos 1) (minus 1) forever ∷ SndMbf (pos 1) (pos 0) forever ∷ [])
     (used 1 ∷ []) (seen (new 1 ∷ Code E-PAR ∷ Code E-PAR ∷ []) [] [] (0 ∷ []))
 
 -- "1 stored at cost 8."
@@ -167,7 +172,7 @@ handedOver =
 -- "Only the first msgsz of the 32 bytes count": with five bytes handed over the others are zeros
 fewBytes : Case
 fewBytes =
-    caseWith (upTo 5) (CreMbf (pos 0) (pos 256) (pos 32) ∷ SndMbf (pos 1) (pos 7) forever ∷ RcvMbf (pos 1) forever ∷ [])
+    caseWith (λ c. upTo 5) (CreMbf (pos 0) (pos 256) (pos 32) ∷ SndMbf (pos 1) (pos 7) forever ∷ RcvMbf (pos 1) forever ∷ [])
     (used 1 ∷ []) (seen (new 1 ∷ OK ∷ new 7 ∷ []) [] ((1, Message (upTo 5 ++ 0 ∷ 0 ∷ [])) ∷ []) (0 ∷ []))
 
 -- "maxmsz 32 taken, 33: -17."
@@ -221,6 +226,52 @@ senderDeleted : Case
 senderDeleted =
     case (second ++ CreMbf (pos 0) (pos 0) (pos 32) ∷ SndMbf (pos 1) (pos 7) forever ∷ DelMbf (pos 1) ∷ [])
     (outboxByte 1 0 ∷ []) (seen (new 2 ∷ OK ∷ new 1 ∷ Waits ∷ OK ∷ []) ((1, E-DLT) ∷ []) [] (0 ∷ []))
+
+-- ---- 02, request Two: "snd_mbf with msgsz 1 to 32 and a nonzero byte after the first msgsz of its 32 becomes -17, in order 4"
+
+-- Buffer 1 is made. With these bytes a message of msgsz is sent to a buffer; its answer is seen, and what is used of buffer 1 then.
+abbrev sendOf : List ℕ → ℕ → ℕ → Answer → ℕ → Case
+sendOf bytes buffer msgsz answer n =
+    caseWith (λ c. bytes) (CreMbf (pos 0) (pos 256) (pos 32) ∷ SndMbf (pos buffer) (pos msgsz) forever ∷ [])
+    (used 1 ∷ []) (seen (new 1 ∷ answer ∷ []) [] [] (n ∷ []))
+
+-- msgsz 1: the second byte, the last of the 32
+nextDirty : Case
+nextDirty = sendOf (7 ∷ 7 ∷ []) 1 1 (Code E-PAR) 0
+
+lastDirty : Case
+lastDirty = sendOf (7 ∷ zeros 30 ++ 7 ∷ []) 1 1 (Code E-PAR) 0
+
+-- msgsz 31: one byte is behind it
+dirtyBehind31 : Case
+dirtyBehind31 = sendOf (upTo 32) 1 31 (Code E-PAR) 0
+
+-- zeros behind the message; none behind it; one that is not among the 32
+cleanTail : Case
+cleanTail = sendOf (7 ∷ zeros 31) 1 1 OK 8
+
+noTail : Case
+noTail = sendOf (upTo 32) 1 32 OK 36
+
+beyondMessage : Case
+beyondMessage = sendOf (7 ∷ zeros 31 ++ 7 ∷ []) 1 1 OK 8
+
+-- "msgsz > maxmsz" in order 7, whatever the bytes: order 4 does not apply, as is seen where the buffer is missing
+tooLong : Case
+tooLong = sendOf (upTo 32) 1 33 (Code E-PAR) 0
+
+tooLongClean : Case
+tooLongClean = sendOf [] 1 33 (Code E-PAR) 0
+
+tooLongMissing : Case
+tooLongMissing = sendOf (upTo 32) 2 33 (Code E-NOEXS) 0
+
+-- orders 5 and 6 come later
+dirtyMissing : Case
+dirtyMissing = sendOf (7 ∷ 7 ∷ []) 2 1 (Code E-PAR) 0
+
+dirtyNumberless : Case
+dirtyNumberless = sendOf (7 ∷ 7 ∷ []) 5 1 (Code E-PAR) 0
 
 -- ---- inheritance
 
@@ -295,7 +346,7 @@ storeOf n answer =
       calls = Tick ∷ [];
       store = n;
       outbox = outboxBytes;
-      bytes = [];
+      bytes = sentBytes;
       watched = [];
       seen = record { answers = answer ∷ []; ended = []; delivered = []; numbers = [] };
     }
@@ -318,6 +369,17 @@ table =
     ∷ noPassing
     ∷ lastDrained
     ∷ senderDeleted
+    ∷ nextDirty
+    ∷ lastDirty
+    ∷ dirtyBehind31
+    ∷ cleanTail
+    ∷ noTail
+    ∷ beyondMessage
+    ∷ tooLong
+    ∷ tooLongClean
+    ∷ tooLongMissing
+    ∷ dirtyMissing
+    ∷ dirtyNumberless
     ∷ chainRaises
     ∷ chainLowers
     ∷ circleStands
@@ -392,6 +454,50 @@ senderDeleted-holds : observed senderDeleted ≡ senderDeleted .seen
 unfolding compute observed senderDeleted
 senderDeleted-holds = refl
 
+nextDirty-holds : observed nextDirty ≡ nextDirty .seen
+unfolding compute observed nextDirty
+nextDirty-holds = refl
+
+lastDirty-holds : observed lastDirty ≡ lastDirty .seen
+unfolding compute observed lastDirty
+lastDirty-holds = refl
+
+dirtyBehind31-holds : observed dirtyBehind31 ≡ dirtyBehind31 .seen
+unfolding compute observed dirtyBehind31
+dirtyBehind31-holds = refl
+
+cleanTail-holds : observed cleanTail ≡ cleanTail .seen
+unfolding compute observed cleanTail
+cleanTail-holds = refl
+
+noTail-holds : observed noTail ≡ noTail .seen
+unfolding compute observed noTail
+noTail-holds = refl
+
+beyondMessage-holds : observed beyondMessage ≡ beyondMessage .seen
+unfolding compute observed beyondMessage
+beyondMessage-holds = refl
+
+tooLong-holds : observed tooLong ≡ tooLong .seen
+unfolding compute observed tooLong
+tooLong-holds = refl
+
+tooLongClean-holds : observed tooLongClean ≡ tooLongClean .seen
+unfolding compute observed tooLongClean
+tooLongClean-holds = refl
+
+tooLongMissing-holds : observed tooLongMissing ≡ tooLongMissing .seen
+unfolding compute observed tooLongMissing
+tooLongMissing-holds = refl
+
+dirtyMissing-holds : observed dirtyMissing ≡ dirtyMissing .seen
+unfolding compute observed dirtyMissing
+dirtyMissing-holds = refl
+
+dirtyNumberless-holds : observed dirtyNumberless ≡ dirtyNumberless .seen
+unfolding compute observed dirtyNumberless
+dirtyNumberless-holds = refl
+
 chainRaises-holds : observed chainRaises ≡ chainRaises .seen
 unfolding compute observed chainRaises
 chainRaises-holds = refl
@@ -427,7 +533,7 @@ storeOf-holds = (refl, (refl, (refl, tt)))
 pub cases : AllHold table
 unfolding table
 cases =
-    (noMessage-holds, (oneByte-holds, (eighthWaits-holds, (tooSmall-holds, (justFits-holds, (oldestFirst-holds, (handedOver-holds, (fewBytes-holds, (longestMessage-holds, (timeouts-holds, (ceilings-holds, (noPassing-holds, (lastDrained-holds, (senderDeleted-holds, (chainRaises-holds, (chainLowers-holds, (circleStands-holds, (circleRaises-holds, (circleLowers-holds, (joinsAnew-holds, (notHeld-holds, storeOf-holds)))))))))))))))))))))
+    (noMessage-holds, (oneByte-holds, (eighthWaits-holds, (tooSmall-holds, (justFits-holds, (oldestFirst-holds, (handedOver-holds, (fewBytes-holds, (longestMessage-holds, (timeouts-holds, (ceilings-holds, (noPassing-holds, (lastDrained-holds, (senderDeleted-holds, (nextDirty-holds, (lastDirty-holds, (dirtyBehind31-holds, (cleanTail-holds, (noTail-holds, (beyondMessage-holds, (tooLong-holds, (tooLongClean-holds, (tooLongMissing-holds, (dirtyMissing-holds, (dirtyNumberless-holds, (chainRaises-holds, (chainLowers-holds, (circleStands-holds, (circleRaises-holds, (circleLowers-holds, (joinsAnew-holds, (notHeld-holds, storeOf-holds))))))))))))))))))))))))))))))))
 
 -- the fresh state is valid
 pub fresh-valid : valid freshLent ≡ true

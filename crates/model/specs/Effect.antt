@@ -185,7 +185,7 @@ tick w = succeeds (foldl tickTask w (upTo tasks))
 
 -- ---- the call
 
--- "Only the first msgsz of the 32 bytes count."
+-- "Only the first msgsz of the 32 bytes count": by 02, request Two, the others are zeros, or the call is refused
 unfoldable pub perform : World → Call → List ℕ → Done
 perform w (CreTsk priority) bytes = creTsk w (number priority)
 perform w (DelTsk task) bytes = delTsk w (number task)

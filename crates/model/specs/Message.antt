@@ -6,7 +6,7 @@ use Rattle.model.specs.Sizes.{regionBytes, messageBytes}
 use Rattle.model.specs.Lists.{_!_, zeros, padded}
 use Rattle.model.specs.Code.{bytes4, number4}
 
--- "Only the first msgsz of the 32 bytes count": whatever bytes are handed over with a call count as its first 32, zeros behind them
+-- "snd_mbf: buffer, msgsz, timeout, 32 bytes": whatever bytes are handed over with a call count as its first 32, zeros behind them
 unfoldable pub handed : List ℕ → List ℕ
 handed bytes = padded messageBytes bytes
 

@@ -4,13 +4,14 @@ use Prim.Native.Nat.{ℕ, _+_, _*_}
 use mathlib.Core.Bool.{Bool, true, false, _&&_, _||_, not, cond}
 use mathlib.Core.List.{List, [], _∷_, map}
 use mathlib.Core.Option.{Option, none, some}
+use lib.ListN.{drop}
 use lib.IntN.{ℤ, pos}
 use lib.Signed.{ltZ, leZ}
 use lib.Dec.{eqb, ltb}
 use Rattle.model.specs.declared.call.Call.{Call}
 use Rattle.model.specs.declared.call.Call.the-variants.{CreTsk, DelTsk, StaTsk, ExtTsk, TerTsk, ChgPri, CreMtx, DelMtx, LocMtx, UnlMtx, CreMbf, DelMbf, SndMbf, RcvMbf, CreMpf, DelMpf, GetMpf, RelMpf, Tick}
 use Rattle.model.specs.Sizes.{tasks, mutexes, buffers, pools, blocks, priorities, messageBytes, regionBytes, blockBytes, poolBytes}
-use Rattle.model.specs.Lists.{_!_, upTo, any, member, sum, firstWhere}
+use Rattle.model.specs.Lists.{_!_, upTo, any, member, sum, firstWhere, allZero}
 use Rattle.model.specs.Code.{E-CTX, E-RSATR, E-PAR, E-ID, E-NOEXS, E-OBJ, E-ILUSE, E-LIMIT, E-NOMEM, E-TMOUT, minus, number}
 use Rattle.model.specs.Facts.{queue, absent, dormant, locking, sending, receiving, ceilinged}
 use Rattle.model.specs.Kernel.{Kernel, slot, standsIn}
@@ -59,6 +60,10 @@ badTimeout timeout = refuse 4 E-PAR (leZ timeout (minus 2))
 
 unfoldable pub badField : ℤ → ℤ → ℤ → Refusal
 badField low high x = refuse 4 E-PAR (outside low high x)
+
+-- 02, request Two: "snd_mbf with msgsz 1 to 32 and a nonzero byte after the first msgsz of its 32 becomes -17, in order 4"; the bytes are the 32
+unfoldable pub dirtyTail : ℤ → List ℕ → Refusal
+dirtyTail msgsz bytes = refuse 4 E-PAR (not (outside (pos 1) (pos messageBytes) msgsz) && not (allZero (drop (number msgsz) bytes)))
 
 -- Order 5: "number outside its range"
 unfoldable pub badNumber : ℕ → ℤ → Refusal
@@ -186,11 +191,12 @@ creMbfRefusals k attribute bufsz maxmsz =
     ∷ refuse 10 E-NOMEM (ltZ (pos regionBytes) bufsz)
     ∷ []
 
--- "timeout ≤ -2; msgsz ≤ 0"; "msgsz > maxmsz"
+-- "timeout ≤ -2; msgsz ≤ 0"; 02: "a nonzero byte after the first msgsz"; "msgsz > maxmsz"
 unfoldable pub sndMbfRefusals : Kernel → ℤ → ℤ → ℤ → List ℕ → List Refusal
 sndMbfRefusals k buffer msgsz timeout bytes =
     badTimeout timeout
     ∷ refuse 4 E-PAR (leZ msgsz (pos 0))
+    ∷ dirtyTail msgsz bytes
     ∷ badNumber buffers buffer
     ∷ noSuch (k .buffers .exists) buffer
     ∷ refuse 7 E-PAR (ltZ (pos (k .buffers .maxmsz ! number buffer)) msgsz)
@@ -257,7 +263,7 @@ refusals k Tick bytes = []
 
 -- what has to unfold for the definitions of this file to compute
 unfoldable pub computeRefusal : Unit {0}
-unfolding nobodyRuns badAttribute badTimeout badField badNumber noSuch handedOut chosenTask chosenBase aboveCeiling noneFree
+unfolding nobodyRuns badAttribute badTimeout badField dirtyTail badNumber noSuch handedOut chosenTask chosenBase aboveCeiling noneFree
     poolSum noTime lockWaits storable sendWaits receiveWaits freeBlock creTskRefusals dormantRefusals terTskRefusals
     chgPriRefusals creMtxRefusals locMtxRefusals unlMtxRefusals creMbfRefusals sndMbfRefusals rcvMbfRefusals creMpfRefusals
     getMpfRefusals relMpfRefusals deletionRefusals refusals

@@ -149,13 +149,13 @@ module _ {w : World} (s : Steady 0 w) where
   sends-message buffer msgsz timeout bytes fit e =
       let passed = none-applies (refusals (w .kernel) (SndMbf buffer msgsz timeout) bytes) e in
       let fits : mag timeout < 2 ^ 31 = fit .1 .1 .0 in
-      let n = in-range buffers buffer (passed 3) in
-      let there = eqb-false _ 0 (passed 4) in
+      let n = in-range buffers buffer (passed 4) in
+      let there = eqb-false _ 0 (passed 5) in
       let known = buffer-there (s .invariant) (number buffer) (n .0) (n .1) there in
-      let size : From 1 (w .kernel .buffers .maxmsz ! number buffer) (number msgsz) = (positive msgsz (passed 2), at-most _ msgsz (passed 5)) in
+      let size : From 1 (w .kernel .buffers .maxmsz ! number buffer) (number msgsz) = (positive msgsz (passed 2), at-most _ msgsz (passed 6)) in
       let long : length (take (number msgsz) (handed bytes)) ≡ number msgsz = length-handed (number msgsz) bytes (omega (arith, size, known .longest)) in
       sent s (number buffer) (n .0) (n .1) there (eqb-false _ 0 (passed 0)) timeout (take (number msgsz) (handed bytes)) (rw long size)
-      (rw long (wait-time timeout _ fits (passed 6))) (ℕ-discrete _ 0) _ refl
+      (rw long (wait-time timeout _ fits (passed 7))) (ℕ-discrete _ 0) _ refl
     where
       positive : (n : ℤ) → leZ n (pos 0) ≡ false → 1 ≤ number n
       positive (pos zero) q = absurd (false≢true (sym q))

@@ -153,9 +153,10 @@ pub fn cre_mbf(attribute: i32, bufsz: i32, maxmsz: i32) -> Call {
 pub fn del_mbf(buffer: i32) -> Call {
     Call::DelMbf { buffer }
 }
-/// Sends `msgsz` of the bytes 1, 2, 3, ...
+/// Sends `msgsz` of the bytes 1, 2, 3, ..., zeros behind them; all of them if msgsz is no length.
 pub fn snd_mbf(buffer: i32, msgsz: i32, timeout: i32) -> Call {
-    Call::SndMbf { buffer, msgsz, timeout, bytes: std::array::from_fn(|i| i as u8 + 1) }
+    let length = if msgsz > 0 { msgsz as usize } else { MESSAGE };
+    Call::SndMbf { buffer, msgsz, timeout, bytes: message(length) }
 }
 pub fn rcv_mbf(buffer: i32, timeout: i32) -> Call {
     Call::RcvMbf { buffer, timeout }
