@@ -1,6 +1,6 @@
 //! `compare [--seed N] [--records N] [--states N] [--seconds N] [--tally]`: the static library held
 //! against the reference, until as many records and lent states are done, or for so many seconds.
-//! With `--tally` the answers and ended waits of the scripts are counted at the end.
+//! With `--tally` it says at the end what happened in the scripts, as the generator counts it.
 
 mod calls;
 mod difference;

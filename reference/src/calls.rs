@@ -200,6 +200,7 @@ impl CallMaker {
                 Call::TerTsk { task: number(self.random.pick_if_any(from)?) }
             }
             "chg_pri" if self.random.percent(10) => self.near_a_ceiling()?,
+            "chg_pri" if self.random.percent(20) => self.change_of_raised()?,
             "chg_pri" => {
                 let live = self.tasks(|t| t.place != Place::Absent);
                 let task = if self.random.percent(25) {
@@ -321,6 +322,28 @@ impl CallMaker {
         let (task, ceiling) = self.random.pick_if_any(&near)?;
         let priority = (ceiling + self.random.between(-1, 1)).clamp(1, LEAST_URGENT);
         Some(Call::ChgPri { task: number(task), priority })
+    }
+
+    /// A base for a raised task, at times the one it has.
+    fn change_of_raised(&mut self) -> Option<Call> {
+        let raised = self.tasks(Task::is_raised);
+        let task = self.random.pick_if_any(&raised)?;
+        let Task { base, current, .. } = *self.kernel.task(task);
+        let priority = self.base_around(i32::from(base), i32::from(current));
+        Some(Call::ChgPri { task: number(task), priority })
+    }
+
+    /// A base for a task that has this one and is raised to the level: 0, the same, exactly the
+    /// level, at least as urgent as it, from one to the other, or at most as urgent as it.
+    pub fn base_around(&mut self, base: i32, level: i32) -> i32 {
+        match self.random.below(20) {
+            0..=3 => 0,
+            4..=6 => base,
+            7..=9 => level,
+            10 => self.random.between(1, level),
+            11..=14 => self.random.between(level.min(base), level.max(base)),
+            _ => self.random.between(level, LEAST_URGENT),
+        }
     }
 
     /// A call of the kind on any numbers in or near their ranges.

@@ -153,7 +153,7 @@ impl Kernel {
     }
 
     /// The started tasks, longest-standing first.
-    fn arrivals(&self) -> Vec<TaskNo> {
+    pub(crate) fn arrivals(&self) -> Vec<TaskNo> {
         let started = |t: &TaskNo| !matches!(self.task(*t).place, Place::Absent | Place::Dormant);
         let mut arrivals: Vec<TaskNo> = TaskNo::all().filter(started).collect();
         arrivals.sort_by_key(|&t| self.task(t).arrival);

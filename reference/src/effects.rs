@@ -146,20 +146,25 @@ impl Kernel {
         let task = if task == 0 { caller } else { self.live_task(task)? };
         let Task { place, initial, .. } = *self.task(task);
         let base = if priority == 0 { initial } else { priority as u8 };
-        let above = self.mutexes.iter().flatten().any(|m| {
-            m.attribute == MUTEX_CEILING
-                && base < m.ceiling
-                && (m.holder == Some(task) || m.waiters.contains(task))
-        });
-        if above {
+        if self.is_above_a_ceiling(task, base) {
             return Err(E_ILUSE);
         }
         self.task_mut(task).base = base;
         self.settle();
-        if self.order_at(place) == Some(Order::Priority) {
+        // Kept above its new base by a mutex, it keeps its arrival.
+        if !self.task(task).is_raised() && self.order_at(place) == Some(Order::Priority) {
             self.arrive(task);
         }
         DONE
+    }
+
+    /// Whether the base is above the ceiling of a mutex that the task holds or waits for.
+    pub(crate) fn is_above_a_ceiling(&self, task: TaskNo, base: u8) -> bool {
+        self.mutexes.iter().flatten().any(|m| {
+            m.attribute == MUTEX_CEILING
+                && base < m.ceiling
+                && (m.holder == Some(task) || m.waiters.contains(task))
+        })
     }
 
     // Mutexes.

@@ -19,8 +19,10 @@ pub const RECORDS: usize = TASKS * 15 / 2;
 struct Profile {
     /// How often each call is tried, in the order of [`KINDS`].
     weights: [u32; KINDS.len()],
-    /// How often, in a hundred records, a longer plan is begun.
+    /// How often, in a hundred records, a longer plan is tried.
     plans: usize,
+    /// The same for plans about changes of a base.
+    base_plans: usize,
     /// How often, in a hundred records, a field gets an unusual number.
     unusual: usize,
     /// How many tasks, mutexes, buffers and pools are made first.
@@ -36,28 +38,28 @@ const MANY_TASKS: usize = TASKS * 2 / 3 + 1;
 const PROFILES: [Profile; 8] = [
     // A bit of everything.
     Profile { weights: [5, 2, 14, 3, 4, 10,  4, 2, 22, 14,  3, 2, 24, 20,  3, 1, 14, 10,  14],
-              plans: 4, unusual: 2, setup: [TASKS / 2 + 1, 5, 2, 2] },
+              plans: 4, base_plans: 2, unusual: 2, setup: [TASKS / 2 + 1, 5, 2, 2] },
     // Inheritance: chains, circles, and what breaks them.
     Profile { weights: [3, 1, 12, 2, 5, 10,  3, 2, 40, 14,  0, 0, 1, 1,  0, 0, 1, 1,  10],
-              plans: 12, unusual: 1, setup: [MANY_TASKS, 7, 0, 0] },
+              plans: 12, base_plans: 4, unusual: 1, setup: [MANY_TASKS, 7, 0, 0] },
     // Message buffers, with mutexes that move the senders.
     Profile { weights: [3, 1, 10, 2, 4, 10,  2, 1, 16, 8,  3, 2, 44, 24,  0, 0, 1, 1,  10],
-              plans: 10, unusual: 1, setup: [MANY_TASKS, 4, 3, 0] },
+              plans: 10, base_plans: 2, unusual: 1, setup: [MANY_TASKS, 4, 3, 0] },
     // Pools.
     Profile { weights: [3, 1, 10, 3, 4, 8,  1, 1, 8, 5,  0, 0, 1, 1,  6, 3, 40, 24,  10],
-              plans: 1, unusual: 1, setup: [MANY_TASKS, 2, 0, 4] },
+              plans: 1, base_plans: 2, unusual: 1, setup: [MANY_TASKS, 2, 0, 4] },
     // Tasks that come and go, under waits and with mutexes.
     Profile { weights: [14, 8, 26, 12, 16, 16,  3, 2, 20, 6,  2, 1, 8, 8,  2, 1, 8, 4,  10],
-              plans: 3, unusual: 2, setup: [TASKS / 2, 4, 2, 2] },
+              plans: 3, base_plans: 1, unusual: 2, setup: [TASKS / 2, 4, 2, 2] },
     // Every number in use.
     Profile { weights: [20, 2, 10, 2, 2, 4,  16, 3, 8, 4,  10, 2, 6, 6,  12, 3, 6, 4,  6],
-              plans: 2, unusual: 5, setup: [TASKS - 1, MUTEXES, BUFFERS, POOLS] },
+              plans: 2, base_plans: 1, unusual: 5, setup: [TASKS - 1, MUTEXES, BUFFERS, POOLS] },
     // Timeouts.
     Profile { weights: [2, 1, 12, 2, 2, 6,  2, 1, 24, 8,  2, 1, 16, 14,  2, 1, 12, 4,  50],
-              plans: 5, unusual: 1, setup: [MANY_TASKS, 5, 2, 2] },
+              plans: 5, base_plans: 1, unusual: 1, setup: [MANY_TASKS, 5, 2, 2] },
     // Unusual numbers everywhere.
     Profile { weights: [6, 4, 14, 2, 5, 12,  6, 3, 16, 8,  6, 3, 18, 14,  6, 3, 12, 10,  6],
-              plans: 2, unusual: 45, setup: [TASKS / 2, 5, 3, 3] },
+              plans: 2, base_plans: 1, unusual: 45, setup: [TASKS / 2, 5, 3, 3] },
 ];
 
 /// Numbers at the ends of ranges, pool attributes, and what no field allows.
@@ -186,6 +188,7 @@ impl Generator<'_> {
         match self.maker.random.below(100) {
             0..=7 => {
                 let mut record = Vec::new();
+                self.plan.clear();
                 self.choose().write(&mut record);
                 if record.len() > 1 {
                     record.truncate(1 + self.maker.random.below(record.len() - 1));
@@ -270,16 +273,18 @@ impl Generator<'_> {
             return self.choose();
         }
         self.plan.push_front(step);
-        let first = self.maker.kernel.task(running).current;
-        if self.maker.kernel.task(wanted).current > first {
-            let priority = i32::from(first.max(2) - 1);
-            Call::ChgPri { task: i32::from(wanted.get()), priority }
+        let kernel = &self.maker.kernel;
+        let (first, current) = (kernel.task(running).current, kernel.task(wanted).current);
+        let more_urgent = first.max(2) - 1;
+        if current > first && !kernel.is_above_a_ceiling(wanted, more_urgent) {
+            Call::ChgPri { task: i32::from(wanted.get()), priority: i32::from(more_urgent) }
         } else {
-            // Equally urgent and later: the running task steps behind.
-            Call::ChgPri { task: 0, priority: i32::from(self.maker.kernel.task(running).base) }
+            // The running task steps behind its equal; a raised one gets as urgent a base for that.
+            Call::ChgPri { task: 0, priority: i32::from(current) }
         }
     }
 
+    /// A call where no plan is under way; it may begin one.
     fn choose(&mut self) -> Call {
         if self.maker.kernel.running().is_none() {
             let row = self.maker.random.below(KINDS.len());
@@ -291,6 +296,12 @@ impl Generator<'_> {
         }
         if self.maker.random.percent(self.profile.plans) {
             self.plan.extend(self.maker.plan());
+        } else if self.maker.random.percent(self.profile.base_plans) {
+            self.plan.extend(self.maker.base_plan());
+        }
+        // At once: the plan is made for the kernel as it is now.
+        if let Some(step) = self.plan.pop_front() {
+            return self.call(step);
         }
         let all: u32 = self.profile.weights.iter().sum();
         for _ in 0..20 {

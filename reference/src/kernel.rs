@@ -45,6 +45,11 @@ impl Task {
         left: 0,
         arrival: 0,
     };
+
+    /// Whether a mutex keeps it above its base.
+    pub fn is_raised(&self) -> bool {
+        self.current < self.base
+    }
 }
 
 #[derive(Clone, Copy, Debug)]

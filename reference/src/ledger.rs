@@ -22,7 +22,7 @@ struct MutexEntry {
 }
 
 /// A queue by its number; numbers count from 1 as in the calls.
-#[derive(Clone, Copy, PartialEq, Eq, Debug)]
+#[derive(Clone, Copy, PartialEq, Eq, PartialOrd, Ord, Debug)]
 enum Queue {
     Ready,
     Mutex(usize),
@@ -103,11 +103,7 @@ impl Ledger {
                 let task = if task == 0 { caller.expect("a caller") } else { task as usize };
                 let entry = self.tasks[task].as_mut().expect("a task");
                 entry.base = if priority == 0 { entry.initial } else { priority as u8 };
-                if let Some(queue) = self.queue_of(task) {
-                    if self.by_priority(queue) {
-                        self.arrive(task, queue);
-                    }
-                }
+                self.arrive_by_base(task);
             }
             Call::CreMtx { attribute, ceiling } => {
                 let entry = MutexEntry { attribute, ceiling, holder: None };
@@ -151,6 +147,17 @@ impl Ledger {
     fn arrive(&mut self, task: usize, queue: Queue) {
         self.queued.retain(|&(t, _)| t != task);
         self.queued.push((task, queue));
+    }
+
+    /// A task whose base was set arrives anew in a queue by priority, unless its priority, worked
+    /// out from the new base, is another: then a mutex keeps it up, and it stays where it is.
+    fn arrive_by_base(&mut self, task: usize) {
+        let base = self.tasks[task].map(|entry| entry.base);
+        if let Some(queue) = self.queue_of(task) {
+            if self.by_priority(queue) && self.priority(task) == base {
+                self.arrive(task, queue);
+            }
+        }
     }
 
     fn queue_of(&self, task: usize) -> Option<Queue> {
@@ -245,15 +252,7 @@ impl Ledger {
                     started: place != Place::Dormant,
                 }),
             };
-            let queue = match task.place {
-                Place::Absent | Place::Dormant => None,
-                Place::Ready => Some(Queue::Ready),
-                Place::Locking(m) => Some(Queue::Mutex(usize::from(m.get()))),
-                Place::Sending(b) => Some(Queue::Senders(usize::from(b.get()))),
-                Place::Receiving(b) => Some(Queue::Receivers(usize::from(b.get()))),
-                Place::Getting(p) => Some(Queue::Pool(usize::from(p.get()))),
-            };
-            if entry != self.tasks[n] || queue != self.queue_of(n) {
+            if entry != self.tasks[n] || queue_at(task.place) != self.queue_of(n) {
                 return Err(format!("task {n}: {task:?}, not {:?}", self.tasks[n]));
             }
             if entry.map(|_| task.current) != self.priority(n) {
@@ -276,6 +275,32 @@ impl Ledger {
         if !buffers || !pools {
             return Err("buffers or pools differ".into());
         }
+        self.compare_arrivals(kernel)
+    }
+
+    /// The same for the tasks of each queue, as they arrived.
+    fn compare_arrivals(&self, kernel: &Kernel) -> Result<(), String> {
+        let queued = |t: TaskNo| Some((usize::from(t.get()), queue_at(kernel.task(t).place)?));
+        // Stable sorts: the tasks of one queue stay as they arrived.
+        let mut theirs: Vec<_> = kernel.arrivals().into_iter().filter_map(queued).collect();
+        theirs.sort_by_key(|&(_, queue)| queue);
+        let mut ours = self.queued.clone();
+        ours.sort_by_key(|&(_, queue)| queue);
+        if theirs != ours {
+            return Err(format!("arrived as {theirs:?}, not {ours:?}"));
+        }
         Ok(())
+    }
+}
+
+/// The queue that a task of the kernel stands in.
+fn queue_at(place: Place) -> Option<Queue> {
+    match place {
+        Place::Absent | Place::Dormant => None,
+        Place::Ready => Some(Queue::Ready),
+        Place::Locking(m) => Some(Queue::Mutex(usize::from(m.get()))),
+        Place::Sending(b) => Some(Queue::Senders(usize::from(b.get()))),
+        Place::Receiving(b) => Some(Queue::Receivers(usize::from(b.get()))),
+        Place::Getting(p) => Some(Queue::Pool(usize::from(p.get()))),
     }
 }

@@ -8,6 +8,8 @@
 #![forbid(unsafe_code)]
 
 mod alter;
+mod base_plan;
+mod base_tally;
 pub mod boundary;
 mod calls;
 pub mod clauses;

@@ -18,7 +18,7 @@ impl Step {
         Step { by: None, call }
     }
 
-    fn by(task: TaskNo, call: Call) -> Step {
+    pub fn by(task: TaskNo, call: Call) -> Step {
         Step { by: Some(task), call }
     }
 }
@@ -47,19 +47,19 @@ impl CallMaker {
         self.shuffle(mutexes)
     }
 
-    fn shuffled_ready(&mut self) -> Vec<TaskNo> {
+    pub fn shuffled_ready(&mut self) -> Vec<TaskNo> {
         let ready = self.ready();
         self.shuffle(ready)
     }
 
-    fn shuffle<T>(&mut self, mut list: Vec<T>) -> Vec<T> {
+    pub fn shuffle<T>(&mut self, mut list: Vec<T>) -> Vec<T> {
         for i in (1..list.len()).rev() {
             list.swap(i, self.random.below(i + 1));
         }
         list
     }
 
-    fn wait_timeout(&mut self) -> i32 {
+    pub fn wait_timeout(&mut self) -> i32 {
         if self.random.percent(50) {
             -1
         } else {
@@ -151,14 +151,22 @@ impl CallMaker {
         self.shuffle(buffers)
     }
 
-    fn unawaited_buffer_by_priority(&mut self) -> Option<BufferNo> {
+    /// One of them whose senders stand in this order.
+    pub fn unawaited_buffer(&mut self, order: Order) -> Option<BufferNo> {
         let mut buffers = self.unawaited_buffers();
-        buffers.retain(|&b| self.kernel.buffer(b).is_some_and(|b| b.attribute == 1));
+        buffers.retain(|&b| self.kernel.buffer(b).is_some_and(|b| b.sender_order() == order));
         buffers.first().copied()
     }
 
+    /// A buffer that has no message and no senders.
+    pub fn empty_buffer(&mut self) -> Option<BufferNo> {
+        let mut empty = self.buffers();
+        empty.retain(|b| self.kernel.next_message(i32::from(b.get())).is_empty());
+        self.random.pick_if_any(&empty)
+    }
+
     /// Fills a buffer until 8 to 16 bytes are free: a short message fits, a long one does not.
-    fn fill_up(&mut self, steps: &mut Vec<Step>, buffer: BufferNo) -> Option<()> {
+    pub fn fill_up(&mut self, steps: &mut Vec<Step>, buffer: BufferNo) -> Option<()> {
         let state = *self.kernel.buffer(buffer)?;
         let longest = i32::from(state.maxmsz) / 4 * 4;
         let mut free = i32::from(state.bufsz) - i32::from(state.used);
@@ -175,7 +183,7 @@ impl CallMaker {
     fn raised_sender(&mut self) -> Option<Vec<Step>> {
         let mutex = *self.free_inheritance().first()?;
         let tasks = self.shuffled_ready();
-        let buffer = self.unawaited_buffer_by_priority()?;
+        let buffer = self.unawaited_buffer(Order::Priority)?;
         if tasks.len() < 3 {
             return None;
         }
@@ -207,7 +215,7 @@ impl CallMaker {
     fn lowered_sender(&mut self) -> Option<Vec<Step>> {
         let mutex = *self.free_inheritance().first()?;
         let tasks = self.shuffled_ready();
-        let buffer = self.unawaited_buffer_by_priority()?;
+        let buffer = self.unawaited_buffer(Order::Priority)?;
         if tasks.len() < 4 {
             return None;
         }
@@ -286,9 +294,7 @@ impl CallMaker {
                 m.attribute == MUTEX_CEILING && m.holder.is_none() && m.ceiling <= lowest
             })
         });
-        let mut empty = self.buffers();
-        empty.retain(|b| self.kernel.next_message(i32::from(b.get())).is_empty());
-        let buffer = i32::from(self.random.pick_if_any(&empty)?.get());
+        let buffer = i32::from(self.empty_buffer()?.get());
         let chosen = self.random.pick_if_any(&mutexes)?;
         let ceiling = i32::from(self.kernel.mutex(chosen)?.ceiling);
         let mutex = i32::from(chosen.get());

@@ -1,9 +1,10 @@
-//! How often each answer, ended wait, refusal and tail of a send occurred, so that what is missing
-//! shows.
+//! How often each answer, ended wait, refusal, tail of a send and change of a base occurred, so
+//! that what is missing shows.
 
 use std::collections::BTreeMap;
 use std::fmt::Write;
 
+use crate::base_tally::{is_in_circle, BaseTally};
 use crate::kernel::{Kernel, Place};
 use crate::limits::*;
 use crate::number::TaskNo;
@@ -25,6 +26,7 @@ pub struct Tally {
     carried_out: [u64; MESSAGE],
     /// Dirty tails that were refused, from msgsz 1 on.
     dirty: [u64; MESSAGE - 1],
+    bases: BaseTally,
 }
 
 /// Every pair of call and refusal that the table allows.
@@ -85,6 +87,7 @@ impl Tally {
         self.records += 1;
         *self.answers.entry((row, answer_name(out.answer))).or_default() += 1;
         self.tail(before, call, out.answer);
+        self.bases.record(before, call, out, after);
         for ended in &out.ended {
             let wait = match before.task(ended.task).place {
                 Place::Locking(_) => "loc_mtx",
@@ -150,7 +153,7 @@ impl Tally {
             other.place == waiter.place && other.arrival < waiter.arrival
         });
         self.note(past, is_past);
-        self.note(raised, waiter.current < waiter.base);
+        self.note(raised, waiter.is_raised());
     }
 
     fn note(&mut self, what: &'static str, happened: bool) {
@@ -186,11 +189,12 @@ impl Tally {
         }
         let _ = writeln!(text, "  carried out, from msgsz 1 on: {:?}", self.carried_out);
         let _ = writeln!(text, "  dirty, from msgsz 1 on: {:?}", self.dirty);
+        self.bases.report(&mut text);
         let _ = writeln!(text, "ended waits: wait, code, by which call");
         for ((wait, code, row), count) in &self.ended {
             let _ = writeln!(text, "  {wait} {code:<8} {:<8} {count:>10}", KINDS[*row].1);
         }
-        let _ = writeln!(text, "refusals and tails that did not occur");
+        let _ = writeln!(text, "refusals, tails and changes of bases that did not occur");
         for (code, calls) in REFUSALS {
             for call in calls {
                 let row = KINDS.iter().position(|kind| kind.1 == *call).unwrap_or(0);
@@ -211,6 +215,7 @@ impl Tally {
         for msgsz in (1..MESSAGE).filter(|msgsz| self.dirty[msgsz - 1] == 0) {
             let _ = writeln!(text, "  dirty tail of msgsz {msgsz}");
         }
+        self.bases.report_missing(&mut text);
         text
     }
 }
@@ -229,24 +234,7 @@ fn longest_wait(kernel: &Kernel) -> usize {
 
 /// How many tasks are members of a circle of waits for inheritance mutexes.
 fn circle_members(kernel: &Kernel) -> usize {
-    let step = |t: TaskNo| match kernel.task(t).place {
-        Place::Locking(m) => {
-            kernel.mutex(m).filter(|m| m.attribute == MUTEX_INHERIT).and_then(|m| m.holder)
-        }
-        _ => None,
-    };
-    let in_circle = |&start: &TaskNo| {
-        let mut at = start;
-        for _ in 0..TASKS {
-            match step(at) {
-                Some(next) if next == start => return true,
-                Some(next) => at = next,
-                None => return false,
-            }
-        }
-        false
-    };
-    TaskNo::all().filter(in_circle).count()
+    TaskNo::all().filter(|&t| is_in_circle(kernel, t)).count()
 }
 
 /// What stands behind the message, as [`TAILS`] has it; none if that is nothing special.

@@ -52,70 +52,341 @@ fn chg_pri_is_a_new_arrival_in_the_ready_queue() {
     assert_eq!(test.running(), b);
 }
 
-/// Three waiters at an object; the first to come is changed to the priority it has.
-fn three_waiters(
-    prepare: impl Fn(&mut TestKernel),
-    wait: impl Fn() -> Call,
-) -> (TestKernel, [i32; 3]) {
+/// A kind of queue, with the attribute of its object, which has number 1.
+#[derive(Clone, Copy, Debug)]
+enum Queue {
+    Ready,
+    Mutex(i32),
+    Senders(i32),
+    Receivers(i32),
+    Pool(i32),
+}
+
+const BY_PRIORITY: [Queue; 9] = [
+    Queue::Ready,
+    Queue::Mutex(1),
+    Queue::Mutex(2),
+    Queue::Mutex(3),
+    Queue::Senders(1),
+    Queue::Pool(1),
+    Queue::Pool(257),
+    Queue::Pool(513),
+    Queue::Pool(769),
+];
+
+const BY_ARRIVAL: [Queue; 8] = [
+    Queue::Mutex(0),
+    Queue::Senders(0),
+    Queue::Receivers(0),
+    Queue::Receivers(1),
+    Queue::Pool(0),
+    Queue::Pool(256),
+    Queue::Pool(512),
+    Queue::Pool(768),
+];
+
+impl Queue {
+    /// Creates the object, at which everyone has to wait.
+    fn prepare(self, test: &mut TestKernel) {
+        match self {
+            Queue::Ready => {}
+            Queue::Mutex(attribute) => {
+                // The holder waits elsewhere, so that its priority is in nobody's way.
+                test.code(cre_mtx(attribute, 1));
+                test.code(cre_mbf(0, 0, 1));
+                test.start(2);
+                test.ok(loc_mtx(1, -1));
+                test.waits(rcv_mbf(1, -1));
+            }
+            Queue::Senders(attribute) | Queue::Receivers(attribute) => {
+                test.code(cre_mbf(attribute, 0, 1));
+            }
+            Queue::Pool(attribute) => {
+                test.code(cre_mpf(attribute, 1, 1));
+                test.ok(get_mpf(1, 0));
+            }
+        }
+    }
+
+    /// The call that waits there, and the one that ends all waits there.
+    fn calls(self) -> Option<(Call, Call)> {
+        match self {
+            Queue::Ready => None,
+            Queue::Mutex(_) => Some((loc_mtx(1, -1), del_mtx(1))),
+            Queue::Senders(_) => Some((snd_mbf(1, 1, -1), del_mbf(1))),
+            Queue::Receivers(_) => Some((rcv_mbf(1, -1), del_mbf(1))),
+            Queue::Pool(_) => Some((get_mpf(1, -1), del_mpf(1))),
+        }
+    }
+
+    /// The three tasks of the queue in its order.
+    fn order(self, mut test: TestKernel) -> Vec<i32> {
+        match self.calls() {
+            Some((_, delete)) => {
+                test.ok(delete);
+                let ended = test.ended();
+                assert!(ended.iter().all(|&(_, code)| code == E_DLT));
+                ended.iter().map(|&(task, _)| task).collect()
+            }
+            None => (0..3)
+                .map(|_| {
+                    let running = test.running();
+                    assert_eq!(test.run(Call::ExtTsk), Answer::Exited);
+                    running
+                })
+                .collect(),
+        }
+    }
+}
+
+/// What keeps a task at 5.
+#[derive(Clone, Copy, PartialEq, Debug)]
+enum Raise {
+    Nothing,
+    Ceiling,
+    Inheritance,
+    Chain,
+}
+
+const RAISES: [Raise; 3] = [Raise::Ceiling, Raise::Inheritance, Raise::Chain];
+
+impl Raise {
+    /// Raises the running task.
+    fn raise(self, test: &mut TestKernel) {
+        match self {
+            Raise::Nothing => {}
+            Raise::Ceiling => {
+                let mutex = test.code(cre_mtx(3, 5));
+                test.ok(loc_mtx(mutex, -1));
+            }
+            Raise::Inheritance => {
+                let mutex = test.code(cre_mtx(2, 0));
+                test.ok(loc_mtx(mutex, -1));
+                let waiter = test.start(5);
+                test.as_task(waiter, |test| test.waits(loc_mtx(mutex, -1)));
+            }
+            Raise::Chain => {
+                let [near, far] = [0, 0].map(|_| test.code(cre_mtx(2, 0)));
+                test.ok(loc_mtx(near, -1));
+                let (holder, waiter) = (test.start(12), test.start(5));
+                test.as_task(holder, |test| {
+                    test.ok(loc_mtx(far, -1));
+                    test.waits(loc_mtx(near, -1));
+                });
+                test.as_task(waiter, |test| test.waits(loc_mtx(far, -1)));
+            }
+        }
+    }
+}
+
+/// Three tasks of a queue, all at 5, as they arrived. The second has the base 5 and the initial
+/// priority 11; it is the one that is kept up.
+fn three_equals(queue: Queue, raise: Raise) -> (TestKernel, [i32; 3]) {
+    three_equals_with_initial(11, queue, raise)
+}
+
+/// The same with another initial priority of the second.
+fn three_equals_with_initial(initial: i32, queue: Queue, raise: Raise) -> (TestKernel, [i32; 3]) {
     let mut test = TestKernel::new();
-    prepare(&mut test);
-    let tasks = [5, 5, 4].map(|priority| {
-        let task = test.start(priority);
-        assert_eq!(test.running(), task);
-        test.waits(wait());
-        task
-    });
-    test.ok(chg_pri(tasks[0], 5));
-    (test, tasks)
+    queue.prepare(&mut test);
+    let second = test.code(cre_tsk(initial));
+    test.ok(chg_pri(second, 5));
+    test.ok(sta_tsk(second));
+    raise.raise(&mut test);
+    let first = test.start(5);
+    assert_eq!(test.running(), second);
+    let Some((wait, _)) = queue.calls() else {
+        test.ok(chg_pri(second, 5));
+        let last = test.start(5);
+        return (test, [first, second, last]);
+    };
+    test.as_task(first, |test| test.waits(wait));
+    test.waits(wait);
+    let last = test.start(5);
+    test.waits(wait);
+    (test, [first, second, last])
+}
+
+/// The first of three waiters to come is changed to the priority it has.
+#[test]
+fn chg_pri_to_the_same_priority_in_wait_queues() {
+    for (queues, by_priority) in [(&BY_PRIORITY[..], true), (&BY_ARRIVAL, false)] {
+        for queue in queues {
+            let Some((wait, _)) = queue.calls() else { continue };
+            let mut test = TestKernel::new();
+            queue.prepare(&mut test);
+            let [a, b, c] = [5, 5, 4].map(|priority| {
+                let task = test.start(priority);
+                assert_eq!(test.running(), task);
+                test.waits(wait);
+                task
+            });
+            test.ok(chg_pri(a, 5));
+            let order = if by_priority { [c, b, a] } else { [a, b, c] };
+            assert_eq!(queue.order(test), order, "{queue:?}");
+        }
+    }
 }
 
 #[test]
-fn chg_pri_is_a_new_arrival_in_wait_queues_by_priority() {
-    let lock = |attribute, ceiling| {
-        move |test: &mut TestKernel| {
-            // The holder waits elsewhere, so that its priority is in nobody's way.
-            test.code(cre_mtx(attribute, ceiling));
-            test.code(cre_mbf(0, 0, 1));
-            test.start(2);
-            test.ok(loc_mtx(1, -1));
-            test.waits(rcv_mbf(1, -1));
+fn chg_pri_of_a_task_that_is_not_raised_is_a_new_arrival() {
+    for queue in BY_PRIORITY {
+        for priorities in [&[5][..], &[9, 5], &[4, 5], &[0], &[9, 0]] {
+            let (mut test, [first, second, last]) =
+                three_equals_with_initial(5, queue, Raise::Nothing);
+            for &priority in priorities {
+                test.ok(chg_pri(second, priority));
+                assert_eq!(test.current(second), test.task(second).base);
+            }
+            assert_eq!(queue.order(test), [first, last, second], "{queue:?} {priorities:?}");
         }
-    };
-    for (attribute, ceiling) in [(1, 0), (2, 0), (3, 1)] {
-        let (mut test, [a, b, c]) = three_waiters(lock(attribute, ceiling), || loc_mtx(1, -1));
-        test.ok(del_mtx(1));
-        assert_eq!(test.ended(), [(c, E_DLT), (b, E_DLT), (a, E_DLT)], "mutex {attribute}");
     }
-    let (mut test, [a, b, c]) = three_waiters(lock(0, 0), || loc_mtx(1, -1));
-    test.ok(del_mtx(1));
-    assert_eq!(test.ended(), [(a, E_DLT), (b, E_DLT), (c, E_DLT)]);
+}
 
-    let pool = |attribute| {
-        move |test: &mut TestKernel| {
-            test.code(cre_mpf(attribute, 1, 1));
-            test.ok(get_mpf(1, 0));
+/// The first change falls below what the mutex keeps up; then up, the same, down, to 0, up.
+#[test]
+fn chg_pri_of_a_raised_task_keeps_its_place() {
+    for queue in BY_PRIORITY {
+        for raise in RAISES {
+            let (mut test, [first, second, last]) = three_equals(queue, raise);
+            for (priority, base) in [(9, 9), (7, 7), (7, 7), (12, 12), (0, 11), (6, 6)] {
+                test.ok(chg_pri(second, priority));
+                assert_eq!((test.task(second).base, test.current(second)), (base, 5));
+            }
+            assert_eq!(queue.order(test), [first, second, last], "{queue:?} {raise:?}");
         }
-    };
-    for (attribute, by_priority) in [(0, false), (1, true), (768, false), (257, true)] {
-        let (mut test, [a, b, c]) = three_waiters(pool(attribute), || get_mpf(1, -1));
-        let order = if by_priority { [c, b, a] } else { [a, b, c] };
-        test.ok(del_mpf(1));
-        assert_eq!(test.ended(), order.map(|task| (task, E_DLT)), "pool {attribute}");
     }
+}
 
-    for attribute in [0, 1] {
-        let buffer = |test: &mut TestKernel| {
-            test.code(cre_mbf(attribute, 0, 8));
-        };
-        let (mut test, [a, b, c]) = three_waiters(buffer, || snd_mbf(1, 1, -1));
-        let order = if attribute == 1 { [c, b, a] } else { [a, b, c] };
-        test.ok(del_mbf(1));
-        assert_eq!(test.ended(), order.map(|task| (task, E_DLT)), "senders {attribute}");
-        // Receivers always by arrival.
-        let (mut test, [a, b, c]) = three_waiters(buffer, || rcv_mbf(1, -1));
-        test.ok(del_mbf(1));
-        assert_eq!(test.ended(), [(a, E_DLT), (b, E_DLT), (c, E_DLT)], "receivers {attribute}");
+/// By its number, and by 0 where it is the initial priority.
+#[test]
+fn chg_pri_to_exactly_what_a_mutex_keeps_is_a_new_arrival() {
+    for queue in BY_PRIORITY {
+        for raise in RAISES {
+            // Not raised before, and raised; then the last is behind in either case.
+            for (before, exactly) in [(5, 5), (9, 5), (5, 0), (9, 0)] {
+                let (mut test, [first, second, last]) = three_equals_with_initial(5, queue, raise);
+                test.ok(chg_pri(second, before));
+                test.ok(chg_pri(last, 5));
+                test.ok(chg_pri(second, exactly));
+                assert_eq!((test.task(second).base, test.current(second)), (5, 5));
+                assert_eq!(queue.order(test), [first, last, second], "{queue:?} {raise:?}");
+            }
+        }
     }
+}
+
+/// Raised, it runs on; at exactly its level it goes behind its equal.
+#[test]
+fn chg_pri_of_the_raised_running_task_by_itself() {
+    for raise in RAISES {
+        let (mut test, [first, second, last]) = three_equals(Queue::Ready, raise);
+        test.ok(chg_pri(first, 6));
+        for priority in [9, 7, 7, 12, 0] {
+            test.ok(chg_pri(0, priority));
+            assert_eq!((test.running(), test.current(second)), (second, 5), "{raise:?}");
+        }
+        test.ok(chg_pri(0, 5));
+        assert_eq!((test.running(), test.current(second)), (last, 5), "{raise:?}");
+    }
+}
+
+/// Above what the mutex keeps up it arrives anew; falling back, it keeps that place.
+#[test]
+fn chg_pri_above_what_a_mutex_keeps_is_a_new_arrival() {
+    for queue in BY_PRIORITY {
+        for raise in [Raise::Inheritance, Raise::Chain] {
+            let (mut test, [first, second, last]) = three_equals(queue, raise);
+            test.ok(chg_pri(second, 9));
+            test.ok(chg_pri(second, 4));
+            assert_eq!(test.current(second), 4);
+            test.ok(chg_pri(first, 5));
+            test.ok(chg_pri(second, 9));
+            assert_eq!(test.current(second), 5);
+            assert_eq!(queue.order(test), [last, second, first], "{queue:?} {raise:?}");
+        }
+    }
+}
+
+#[test]
+fn chg_pri_is_no_arrival_in_queues_by_arrival() {
+    for queue in BY_ARRIVAL {
+        for raise in [Raise::Nothing, Raise::Ceiling, Raise::Inheritance, Raise::Chain] {
+            let (mut test, tasks) = three_equals(queue, raise);
+            for priority in [5, 9, 7, 7, 12, 0, 5] {
+                test.ok(chg_pri(tasks[1], priority));
+            }
+            if raise != Raise::Ceiling {
+                test.ok(chg_pri(tasks[1], 4));
+            }
+            assert_eq!(queue.order(test), tasks, "{queue:?} {raise:?}");
+        }
+    }
+}
+
+/// The member of a circle waits for mutex 2, which its partner holds, between two others.
+#[test]
+fn chg_pri_in_a_circle() {
+    for (priorities, keeps) in
+        [(&[9, 7, 7, 12, 0, 6][..], true), (&[5], false), (&[9, 5], false), (&[4, 9], false)]
+    {
+        let mut test = TestKernel::new();
+        test.code(cre_mtx(2, 0));
+        test.code(cre_mtx(2, 0));
+        let member = test.code(cre_tsk(11));
+        test.ok(chg_pri(member, 5));
+        test.ok(sta_tsk(member));
+        test.ok(loc_mtx(1, -1));
+        let partner = test.start(5);
+        test.as_task(partner, |test| test.ok(loc_mtx(2, -1)));
+        let first = test.start(5);
+        test.as_task(first, |test| test.waits(loc_mtx(2, -1)));
+        test.waits(loc_mtx(2, -1));
+        test.as_task(partner, |test| test.waits(loc_mtx(1, -1)));
+        let last = test.start(5);
+        test.waits(loc_mtx(2, -1));
+        for &priority in priorities {
+            test.ok(chg_pri(member, priority));
+            let current = if priority == 4 { 4 } else { 5 };
+            assert_eq!((test.current(member), test.current(partner)), (current, current));
+        }
+        let order = if keeps { [first, member, last] } else { [first, last, member] };
+        test.ok(del_mtx(2));
+        assert_eq!(test.ended(), order.map(|task| (task, E_DLT)), "{priorities:?}");
+    }
+}
+
+/// The look at the buffers comes last: a raised sender stays before an equal whose message fits.
+#[test]
+fn chg_pri_may_let_a_sender_fit() {
+    let mut test = TestKernel::new();
+    test.code(cre_mbf(1, 8, 32));
+    test.code(cre_mtx(3, 5));
+    let long = test.start(5);
+    test.ok(loc_mtx(1, -1));
+    test.waits(snd_mbf(1, 32, -1));
+    let short = test.start(5);
+    test.waits(snd_mbf(1, 4, -1));
+    for priority in [9, 7, 7, 12] {
+        test.ok(chg_pri(long, priority));
+        assert_eq!(test.ended(), []);
+    }
+    test.ok(chg_pri(long, 5));
+    assert_eq!(test.ended(), [(short, E_OK)]);
+    assert_eq!(test.used(1), 8);
+}
+
+/// Its holder falls back to its base, but only the changed task may arrive anew.
+#[test]
+fn chg_pri_of_a_waiter_is_no_arrival_of_its_holder() {
+    let mut test = TestKernel::new();
+    test.code(cre_mtx(2, 0));
+    test.ok(loc_mtx(1, -1));
+    let urgent = test.start(2);
+    test.waits(loc_mtx(1, -1));
+    test.start(8);
+    test.ok(chg_pri(urgent, 9));
+    assert_eq!((test.running(), test.current(1)), (1, 8));
 }
 
 #[test]

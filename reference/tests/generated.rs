@@ -12,12 +12,13 @@ use reference::tally::Tally;
 #[test]
 fn generated_scripts_check_out() {
     let mut tally = Tally::default();
-    for index in 0..1_500 {
+    for index in 0..3_000 {
         let script = generate(2024, index, RECORDS, &mut tally);
         self_check(&script).unwrap_or_else(|what| panic!("script {index}: {what}"));
     }
     let report = tally.report();
-    assert!(report.ends_with("refusals and tails that did not occur\n"), "{report}");
+    let missing = "refusals, tails and changes of bases that did not occur\n";
+    assert!(report.ends_with(missing), "{report}");
 }
 
 #[test]

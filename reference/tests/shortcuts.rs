@@ -1,4 +1,5 @@
-//! 01's shortcuts a good student takes, each as a case that the shortcut fails.
+//! Shortcuts a good student takes, 01's and those around request Five of 02, each as a case that
+//! the shortcut fails.
 
 mod common;
 
@@ -201,4 +202,69 @@ fn multiplying_before_testing() {
     assert_eq!(test.code(cre_mpf(0, MOST_BLOCKS, 256)), E_NOMEM);
     test.ok(del_mpf(2));
     assert_eq!(test.code(cre_mpf(0, MOST_BLOCKS, 256)), 1);
+}
+
+/// Task 1 is kept at 4 by a ceiling and has the base 4 too; of its equals, which arrived before and
+/// behind it, the first runs.
+fn between_equals() -> (TestKernel, [i32; 2]) {
+    let mut test = TestKernel::new();
+    test.code(cre_mtx(3, 4));
+    test.ok(loc_mtx(1, -1));
+    let first = test.start(4);
+    test.ok(chg_pri(1, 4));
+    let last = test.start(4);
+    assert_eq!((test.running(), test.current(1)), (first, 4));
+    (test, [first, last])
+}
+
+/// Who runs after the first of the equals.
+fn next_to_run(mut test: TestKernel) -> i32 {
+    test.run(Call::ExtTsk);
+    test.running()
+}
+
+/// Arriving anew with every chg_pri lets a raised task fall behind.
+#[test]
+fn arriving_anew_always() {
+    for priority in [9, 16] {
+        let (mut test, _) = between_equals();
+        test.ok(chg_pri(1, priority));
+        assert_eq!(next_to_run(test), 1);
+    }
+}
+
+/// Comparing current and base priority before the change is wrong in both directions.
+#[test]
+fn comparing_before_the_change() {
+    // Equal before, raised afterwards.
+    let (mut test, _) = between_equals();
+    test.ok(chg_pri(1, 8));
+    assert_eq!((test.task(1).base, test.current(1)), (8, 4));
+    // Raised before, equal afterwards; the last arrives anew in between, so it is behind for sure.
+    let (mut other, [_, last]) = between_equals();
+    other.ok(chg_pri(1, 8));
+    other.ok(chg_pri(last, 4));
+    other.ok(chg_pri(1, 4));
+    assert_eq!((other.task(1).base, other.current(1)), (4, 4));
+    assert_eq!((next_to_run(test), next_to_run(other)), (1, last));
+}
+
+/// Comparing the new base with the current priority from before the change, which it may lower.
+#[test]
+fn comparing_with_the_current_priority_before() {
+    let mut test = TestKernel::new();
+    let moved = test.start(5);
+    let other = test.start(8);
+    // Nothing raises it: from 5 to 8 it goes behind the other.
+    test.ok(chg_pri(moved, 8));
+    assert_eq!(test.running(), 1);
+    assert_eq!(next_to_run(test), other);
+}
+
+/// Asking whether a mutex keeps the task up, not whether it keeps it above its base.
+#[test]
+fn asking_for_a_mutex_alone() {
+    let (mut test, [_, last]) = between_equals();
+    test.ok(chg_pri(1, 4));
+    assert_eq!(next_to_run(test), last);
 }

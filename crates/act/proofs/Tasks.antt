@@ -2,10 +2,11 @@
 use Prim.Native.Nat.{ℕ, _-_, pred}
 use native.Mathlib.Omega.{arith}
 use mathlib.Core.Path.{_≡_, _∙_, refl, sym}
-use mathlib.Core.Bool.{Bool, true, false}
+use mathlib.Core.Bool.{Bool, true, false, _&&_}
 use mathlib.Core.List.{List}
 use mathlib.Core.Logic.{_≢_}
 use lib.ListN.{length}
+use lib.Dec.{eqb}
 use Rattle.model.specs.Sizes.{endless}
 use Rattle.model.specs.Lists.{_!_}
 use Rattle.model.specs.Code.{E-TMOUT}
@@ -14,7 +15,7 @@ use Rattle.model.specs.Queue.{byPriority}
 use Rattle.model.specs.Kernel.{withArrivals, withPlace, withBase, withLeft, departed, arrived, facts}
 use Rattle.model.specs.World.{Nothing, withKernel, withOutbox, recompute}
 use Rattle.model.specs.Act.{settled, leave, endWait, releaseAll, becomeDormant}
-use Rattle.model.specs.Effect.{rejoin, tickTask}
+use Rattle.model.specs.Effect.{arrivesAnew, rejoin, tickTask}
 use Rattle.model.specs.Words.{wordCount, kernel}
 use Rattle.model.proofs.ByCase.{tick-none, tick-endless, tick-last, tick-more}
 use Rattle.state.specs.Words.{Represents}
@@ -40,18 +41,18 @@ module _ (t : ℕ) {s s1 s' o o1 o' log log' : List ℕ} {at next : ℕ} where
             d .does store .holds l _ (record { state = r .state; store = refl; outbox = r .outbox; log = h .log });
       }
 
-module _ (t : ℕ) (s : List ℕ) {place object : ℕ} {r : Bool} (p : place ≡ kernel s .tasks .place ! t) (o : object ≡ kernel s .tasks .object ! t)
-    (e : r ≡ byPriority (facts (kernel s)) (queue place object)) where
+module _ (t : ℕ) (s : List ℕ) {place object current base : ℕ} {r : Bool} (p : place ≡ kernel s .tasks .place ! t) (o : object ≡ kernel s .tasks .object ! t)
+    (c : current ≡ kernel s .tasks .current ! t) (b : base ≡ kernel s .tasks .base ! t) (e : r ≡ byPriority (facts (kernel s)) (queue place object)) where
   by-place : byPriority (facts (kernel s)) (queue (kernel s .tasks .place ! t) (kernel s .tasks .object ! t)) ≡ r
   by-place = rw (← p, ← o) (sym e)
 
-  pub rejoins : {s' : List ℕ} → r ≡ true → Represents s' (withArrivals (kernel s) (arrived t (kernel s .arrivals))) → Represents s' (rejoin (kernel s) t)
-  unfolding rejoin
-  rejoins g a = rw (by-place, g) a
+  pub rejoins : {s' : List ℕ} → r && eqb current base ≡ true → Represents s' (withArrivals (kernel s) (arrived t (kernel s .arrivals))) → Represents s' (rejoin (kernel s) t)
+  unfolding arrivesAnew rejoin
+  rejoins g a = rw (by-place, ← c, ← b, g) a
 
-  pub rejoins-not : length s ≡ wordCount → r ≡ false → Represents s (rejoin (kernel s) t)
-  unfolding rejoin
-  rejoins-not h g = record { length = h; kernel = rw (by-place, g) }
+  pub rejoins-not : length s ≡ wordCount → r && eqb current base ≡ false → Represents s (rejoin (kernel s) t)
+  unfolding arrivesAnew rejoin
+  rejoins-not h g = record { length = h; kernel = rw (by-place, ← c, ← b, g) }
 
 module _ (t : ℕ) {n : ℕ} {s o log : List ℕ} {at : ℕ} (e : n ≡ kernel s .tasks .left ! t) where
   pub ticks-none : n ≡ 0 → DoesInLog (λ w. tickTask w t) s o log at s o log at

@@ -47,14 +47,17 @@ pub fn become_dormant(
     release_all(state, outbox, log, at, t)
 }
 
-// "chg_pri counts as joining anew, except in lines by joining only"; a dormant task stands in no queue.
+// "chg_pri counts as joining anew, except in lines by joining only"; by 02, request Five, "only if current and base priority are
+// equal afterwards": priorities are settled before this is asked. A dormant task stands in no queue.
 pub fn rejoin(state: &mut [u32], t: TaskNumber)
     requires { ⌜ length (now state) ≡ wordCount ⌝ }
     ensures { λ _. ⌜ Represents (now (state .exit)) (rejoined (kernel (now (state .entry))) (t .0)) ⌝ }
 {
     let place = state::task::place(state, t);
     let object = state::task::object(state, t);
-    if by_priority(state, place, object) {
+    let current = state::task::current(state, t);
+    let base = state::task::base(state, t);
+    if by_priority(state, place, object) & (current == base) {
         arrive_last(state, t);
     }
 }

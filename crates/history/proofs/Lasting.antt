@@ -1,6 +1,6 @@
 -- A mutex that the ledger has before and after a call keeps its attribute and ceiling.
 use lib.Seq.{map-set-same}
-use Rattle.model.proofs.Terms.{ℕ, zero, suc, arith, _≡_, _∙_, refl, sym, ap, _⊎_, inl, inr, false, _&&_, cond, Option, none, some, Option·map, List, [], _∷_, map, foldl, getD, set, ℤ, pos, negsuc, leZ, eqb, eqb-false, mutexes, number, locking, byPriority, running, Lent, begun, unused, nobodyRuns, badAttribute, noneFree, creMtxRefusals, refusals, creMtx, perform, effect, Valid, refused, carriedOut, validStep, step, Outcome, MutexEntry, Ledger, withTaskEntry, withMutexEntry, withBufferEntry, withPoolEntry, withLines, join, standing, ledgerFacts, ledgerRuns, depart, onTask, holds, onMutex, fallsDormant, starts, changes, answeredWith, waitsIn, waiting, endsWait, entered}
+use Rattle.model.proofs.Terms.{ℕ, zero, suc, arith, _≡_, _∙_, refl, sym, ap, _⊎_, inl, inr, false, _&&_, cond, Option, none, some, Option·map, List, [], _∷_, map, foldl, getD, set, ℤ, pos, negsuc, leZ, eqb, eqb-false, mutexes, number, locking, running, Lent, begun, unused, nobodyRuns, badAttribute, noneFree, creMtxRefusals, refusals, creMtx, perform, effect, Valid, refused, carriedOut, validStep, step, Outcome, MutexEntry, Ledger, withTaskEntry, withMutexEntry, withBufferEntry, withPoolEntry, withLines, join, standing, ledgerRuns, depart, onTask, holds, onMutex, fallsDormant, starts, joinsAnew, rejoins, changes, answeredWith, waitsIn, waiting, endsWait, entered}
 use Rattle.model.specs.Ledger.{computeLedger}
 use Rattle.model.specs.declared.call.Call.{Call}
 use Rattle.model.specs.declared.call.Call.the-variants.{CreTsk, DelTsk, StaTsk, ExtTsk, TerTsk, ChgPri, CreMtx, DelMtx, LocMtx, UnlMtx, CreMbf, DelMbf, SndMbf, RcvMbf, CreMpf, DelMpf, GetMpf, RelMpf, Tick}
@@ -111,7 +111,7 @@ module _ (x : Lent) (v : Valid x) where
       rw all-end (set-lasts (l .mutexes) n _ (inl (table-at (suc mutexes) _ n none (omega (arith, new .0)) ∙ rw (new .1))))))
 
   pub call-lasts : (c : Call) (bytes : List ℕ) → Lasts c (step x c bytes)
-  unfolding answeredWith withTaskEntry withMutexEntry withBufferEntry withPoolEntry onTask starts changes join depart withLines holds
+  unfolding answeredWith withTaskEntry withMutexEntry withBufferEntry withPoolEntry onTask starts rejoins changes join depart withLines holds
   call-lasts (CreTsk priority) bytes = entered-lasts l _ _ _ (λ n. same-lasts refl)
   call-lasts (DelTsk task) bytes = entered-lasts l _ _ _ (λ n. same-lasts refl)
   call-lasts (StaTsk task) bytes = entered-lasts l _ _ _ (λ n. same-lasts refl)
@@ -119,7 +119,7 @@ module _ (x : Lent) (v : Valid x) where
   call-lasts (TerTsk task) bytes = entered-lasts l _ _ _ (λ n. same-lasts (falls l (number task)))
   call-lasts (ChgPri task priority) bytes =
       entered-lasts l _ _ _
-      (λ n. same-lasts {ys = shapes (answeredWith l (ChgPri task priority) n)} (either (λ j. shapes j ≡ shapes l) (byPriority (ledgerFacts l) _) refl refl))
+      (λ n. same-lasts {ys = shapes (answeredWith l (ChgPri task priority) n)} (either (λ j. shapes j ≡ shapes l) (joinsAnew _ _) refl refl))
   call-lasts (CreMtx attribute ceiling) bytes = created attribute ceiling bytes
   call-lasts (DelMtx mutex) bytes = entered-lasts l _ _ _ (λ n. set-lasts (l .mutexes) (number mutex) none (inr refl))
   call-lasts (LocMtx mutex timeout) bytes = entered-lasts l _ _ _ (λ n. same-lasts (on-mutex l (number mutex) (holds (ledgerRuns l)) (λ e. refl)))

@@ -28,11 +28,11 @@ module _ {w : World} (s : Steady 0 w) (t : ℕ) (low : 1 ≤ t) (high : t ≤ ta
   unfolding moved withRow openTasks
   place = set-here (s .invariant .ofTasks .lists .place) high dormant
 
-  rebased : Invariant t (withArrivals (withBase fallen t (fallen .tasks .initial ! t)) (fallen .arrivals)) (w .store) (leaveOutbox now (w .outbox) t)
+  rebased : Invariant t (withBase fallen t (fallen .tasks .initial ! t)) (w .store) (leaveOutbox now (w .outbox) t)
   rebased =
       let p = place in
       let initial = ⊎-elim (λ g. absurd (omega (arith, g .0))) (λ g. g .1) (fallen-kept .ofTasks .each t low high .range) in
-      based fallen-kept t low high (fallen .tasks .initial ! t) (omega arith) initial (λ m i j q n. absurd (n refl)) (λ e. absurd (omega arith)) (fallen-kept .ofTasks .listing)
+      based fallen-kept t low high (fallen .tasks .initial ! t) (omega arith) initial (λ m i j q n. absurd (n refl)) (λ e. absurd (omega arith))
 
   -- the world in which it gives up its mutexes
   abbrev left : Kernel

@@ -1,7 +1,7 @@
--- A task's row changes: it goes from one place to another, gets another base or another time, is created or deleted.
+-- A task's row changes: it goes from one place to another, gets another base or another time, is created or deleted; or the task arrives anew where it is.
 use mathlib.Core.Logic.{⊎-elim}
-use Rattle.model.proofs.Terms.{ℕ, _-_, _≤_, _<_, arith, _≡_, _∙_, refl, sym, subst, _≢_, _⊎_, inl, inr, List, set, drop, set-getD, tasks, mutexes, priorities, messageBytes, _!_, zeros, Queue, queue, absent, dormant, ready, locking, sending, receiving, getting, Kernel, slot, withTasks, withArrivals, withPlace, withInitial, withBase, withCurrent, withLeft, part, Each, From}
-use Rattle.queue.proofs.Listing.{Listing}
+use Rattle.model.proofs.Terms.{ℕ, _-_, _≤_, _<_, arith, _≡_, _∙_, refl, sym, subst, _≢_, _⊎_, inl, inr, List, set, drop, set-getD, tasks, mutexes, priorities, messageBytes, _!_, zeros, Queue, queue, absent, dormant, ready, locking, sending, receiving, getting, Kernel, slot, withTasks, withArrivals, withPlace, withInitial, withBase, withCurrent, withLeft, arrived, part, Each, From}
+use Rattle.queue.proofs.Listing.{Listing, arrived-listing}
 use Rattle.invariant.specs.Rows.{TaskRow, taskRows, mutexRows, bufferRows, poolRows, withTaskRow, openTasks}
 use Rattle.invariant.specs.Invariant.{Lasting, TaskKept, Under, Holding, Locks, Sends, Receives, Gets, Invariant}
 use Rattle.invariant.proofs.Parts.{TaskFits, Boxed, task-exchanged}
@@ -107,16 +107,29 @@ module _ {exiting : ℕ} {k : Kernel} {store outbox : List ℕ} (v : Invariant e
           gets = v .ofPools .waits t low high;
         }
 
-  -- the base of a task that is there, not above a ceiling that binds it; it may count as arriving anew
-  pub based : (base : ℕ) {ts : List ℕ} → dormant ≤ k .tasks .place ! t → From 1 priorities base
+  -- the base of a task that is there, not above a ceiling that binds it
+  pub based : (base : ℕ) → dormant ≤ k .tasks .place ! t → From 1 priorities base
       → Each mutexes (λ m. k .mutexes .holder ! m ≡ t → t ≢ exiting → Under (mutexRows (k .mutexes) m) base)
-      → (row .place ≡ locking → Under (mutexRows (k .mutexes) (row .object)) base) → Listing (k .tasks .place) ts
-      → Invariant exiting (withArrivals (withBase k t base) ts) store outbox
+      → (row .place ≡ locking → Under (mutexRows (k .mutexes) (row .object)) base) → Invariant exiting (withBase k t base) store outbox
   unfolding openTasks
-  based base {ts} was range held awaited listing =
+  based base was range held awaited =
       rw (set-getD, set-getD, set-getD, set-getD, set-getD, set-getD) at
-      (task-exchanged v t low high (stayedRow base (row .left)) (k .tasks .current ! t) {ts = ts} (stays base (row .left) held awaited) (rw set-getD listing)
+      (task-exchanged v t low high (stayedRow base (row .left)) (k .tasks .current ! t) {ts = k .arrivals} (stays base (row .left) held awaited)
+      (rw set-getD (v .ofTasks .listing))
       (record { range = inr (there was .0, there was .1, range); time = own .time; silent = own .silent; boxed = own .boxed }) same-box)
+
+  -- a started task arrives anew where it stands
+  pub arrived-anew : ready ≤ k .tasks .place ! t → Invariant exiting (withArrivals k (arrived t (k .arrivals))) store outbox
+  unfolding openTasks
+  arrived-anew h =
+      let x = v .ofTasks in
+      let list = rw (set-getD (k .tasks .place) t 0) at (arrived-listing (x .listing) t (k .tasks .place ! t) low high h) in
+      record {
+        ofTasks = record { lists = x .lists; listing = list; size = x .size; each = x .each };
+        ofMutexes = v .ofMutexes;
+        ofBuffers = v .ofBuffers;
+        ofPools = v .ofPools;
+      }
 
   -- the time of a wait
   pub timed : (left : ℕ) → locking ≤ row .place → Lasting left → Invariant exiting (withLeft k t left) store outbox

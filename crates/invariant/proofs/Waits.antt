@@ -24,11 +24,11 @@ pub steady-settled : {exiting : ℕ} (w : World) {k : Kernel} → Invariant exit
 unfolding settled withKernel
 steady-settled w {k} v = record { invariant = recomputed v; priorities = priorities-recomputed k }
 
--- buffers and pools do not enter them
-pub priorities-beside : (k : Kernel) (x : Buffers) (y : Pools) → Priorities k
-    → Priorities (record { tasks = k .tasks; arrivals = k .arrivals; mutexes = k .mutexes; buffers = x; pools = y })
+-- arrivals, buffers and pools do not enter them
+pub priorities-beside : (k : Kernel) (ts : List ℕ) (x : Buffers) (y : Pools) → Priorities k
+    → Priorities (record { tasks = k .tasks; arrivals = ts; mutexes = k .mutexes; buffers = x; pools = y })
 unfolding Priorities effectives effective ownPriority holderAwaited facts
-priorities-beside k x y h = h
+priorities-beside k ts x y h = h
 
 -- a task that goes from one place to another, neither of them a mutex's queue: nobody's priority changes
 module _ (k : Kernel) (t : ℕ) (low : 1 ≤ t) (inside : t < length (k .tasks .place)) (q : Queue) (was : k .tasks .place ! t ≢ locking) (is : q .place ≢ locking) where

@@ -3,12 +3,12 @@ use mathlib.Core.Logic.{⊎-elim}
 use Rattle.model.proofs.Terms.{Ledger, withArrivals, set-getD, ℕ, suc, _≤_, _<_, ℕ-discrete, decLe, arith, _≡_, _∙_, refl, sym, ap, _≢_, Bool, true, false, false≢true, List, [], _∷_, _++_, map, length, getD, set, append-nil, List·getD-eq-default, getD-set-other, eqb, eq-eqb, ne-eqb, le-leb, tasks, _!_, keep, any, member, without, placeWhere, Queue, queue, absent, dormant, ready, locking, sending, receiving, getting, Kernel, departed, arrived, standsIn, facts, arrive, ByNumber, none, some, withLines, depart, join, line, lineOf, standing}
 use Rattle.model.proofs.ListLaws.{or-left, bool-ext, entry-inside, some-at, none-at}
 use Rattle.queue.proofs.ArrivalLaws.{sameQueue, arrive-queue, select-departed, member-select}
-use Rattle.queue.proofs.Listing.{is-started, is-listed, room-left, arrived-listing}
+use Rattle.queue.proofs.Listing.{is-started, is-listed, room-left}
 use Rattle.queue.proofs.Members.{standing-in, in-queue}
 use Rattle.invariant.specs.Rows.{TaskRow, taskRows, openTasks}
 use Rattle.invariant.specs.Invariant.{Invariant}
 use Rattle.invariant.proofs.Exchange.{Exchanged, at-row, inside, numbers, task-row}
-use Rattle.invariant.proofs.Moves.{withRow, movedRow, moved}
+use Rattle.invariant.proofs.Moves.{withRow, movedRow, moved, arrived-anew}
 use Rattle.ledger.specs.Abstraction.{table, taskEntry, widths, linesOf, ledgerOf}
 use Rattle.ledger.proofs.Tables.{length-table, table-at, table-any, table-agree, exchanged-table, map-table, first-in, withTasksAndLines}
 
@@ -137,6 +137,23 @@ module _ {exiting : ℕ} {k : Kernel} {store outbox : List ℕ} (v : Invariant e
             at-row (task-row (k .tasks) (v .ofTasks .lists) t new (k .tasks .current ! t) high) (λ r. taskEntry (taskRows (k .tasks) u) ≡ taskEntry r) u
             (λ e. rw e (started-entry (taskRows (k .tasks) t) was ∙ sym (started-entry new is))) (λ d. refl))
 
+    -- one that joins its own line anew
+    pub joins-own : ready ≤ place → join (ledgerOf k) t (queue place object) ≡ ledgerOf (withArrivals k (arrived t (k .arrivals)))
+    unfolding moved withRow openTasks
+    joins-own h =
+        let x = k .tasks in
+        joins _ (x .argument ! t) (x .left ! t) h h (has-line h)
+        ∙ ap ledgerOf
+        (rw (
+          set-getD (x .place) t 0,
+          set-getD (x .object) t 0,
+          set-getD (x .argument) t 0,
+          set-getD (x .initial) t 0,
+          set-getD (x .base) t 0,
+          set-getD (x .current) t 0,
+          set-getD (x .left) t 0,
+        ))
+
   pub lines-are : (q : Queue) → line (ledgerOf k) q ≡ facts k .arrivals q
   unfolding line ledgerOf
   lines-are q =
@@ -154,28 +171,8 @@ module _ {exiting : ℕ} {k : Kernel} {store outbox : List ℕ} (v : Invariant e
 -- joining anew in the same line: the task stands where it stood
 pub joined-anew : {exiting : ℕ} {k : Kernel} {store outbox : List ℕ} → Invariant exiting k store outbox → (t : ℕ) → 1 ≤ t → t ≤ tasks
     → ready ≤ standing (ledgerOf k) t .place → standing (join (ledgerOf k) t (standing (ledgerOf k) t)) t ≡ standing (ledgerOf k) t
-unfolding moved withRow openTasks
-joined-anew {exiting} {k} {store} {outbox} v t low high h =
-    let x = k .tasks in
-    let was : ready ≤ x .place ! t = rw (stands-at v t low high) at h in
-    let ts = arrived t (k .arrivals) in
-    let same : moved k t (queue (x .place ! t) (x .object ! t)) (x .argument ! t) (x .left ! t) ts ≡ withArrivals k ts =
-    rw (
-      set-getD (x .place) t 0,
-      set-getD (x .object) t 0,
-      set-getD (x .argument) t 0,
-      set-getD (x .initial) t 0,
-      set-getD (x .base) t 0,
-      set-getD (x .current) t 0,
-      set-getD (x .left) t 0,
-    ) in
-    let list = rw (set-getD (x .place) t 0) at (arrived-listing (v .ofTasks .listing) t (x .place ! t) low high was) in
-    let w : Invariant exiting (withArrivals k ts) store outbox =
-    record {
-      ofTasks = record { lists = v .ofTasks .lists; listing = list; size = v .ofTasks .size; each = v .ofTasks .each };
-      ofMutexes = v .ofMutexes;
-      ofBuffers = v .ofBuffers;
-      ofPools = v .ofPools;
-    } in
+unfolding openTasks
+joined-anew v t low high h =
+    let was = rw (stands-at v t low high) at h in
     rw (stands-at v t low high)
-    (ap (λ (j : Ledger). standing j t) (joins v t low high _ (x .argument ! t) (x .left ! t) was was (has-line v t low high was) ∙ ap ledgerOf same) ∙ stands-at w t low high)
+    (ap (λ (j : Ledger). standing j t) (joins-own v t low high was) ∙ stands-at (arrived-anew v t low high was) t low high)

@@ -1,20 +1,45 @@
 -- The calls on tasks and the ledger.
-use Rattle.model.proofs.Terms.{ℕ, _≤_, _≢_, ℕ-discrete, arith, _≡_, _∙_, refl, sym, Bool, true, false, cond, false≢true, none, Option·map, getD, set, set-getD, ℤ, eqb-false, tasks, _!_, number, Queue, queue, readyQueue, absent, dormant, ready, byPriority, Kernel, withTasks, withArrivals, withBase, arrived, facts, standsIn, Lent, Nothing, begun, withKernel, running, arrive, chosenTask, chosenBase, nobodyRuns, noneFree, creTskRefusals, refusals, creTsk, delTsk, staTsk, extTsk, terTsk, rejoin, chgPri, perform, TaskEntry, Ledger, line, depart, withLines, withTaskEntry, onTask, join, starts, rebased, changes, fallsDormant, answeredWith, entered, ledgerRuns}
+use Rattle.model.proofs.Terms.{ℕ, _≤_, _≢_, arith, _≡_, _∙_, refl, sym, ap, Bool, true, false, cond, none, Option·map, getD, set, set-getD, ℤ, eqb-false, tasks, _!_, number, Queue, queue, readyQueue, absent, dormant, Kernel, withTasks, withArrivals, arrived, facts, standsIn, Lent, World, Nothing, begun, withKernel, running, recompute, arrive, chosenTask, chosenBase, nobodyRuns, noneFree, creTskRefusals, refusals, creTsk, delTsk, staTsk, extTsk, terTsk, arrivesAnew, rejoin, chgPri, perform, TaskEntry, Ledger, line, depart, withLines, withTaskEntry, onTask, join, starts, joinsAnew, rejoins, changes, fallsDormant, answeredWith, entered, ledgerRuns}
 use Rattle.model.specs.declared.call.Call.the-variants.{CreTsk, DelTsk, StaTsk, ExtTsk, TerTsk, ChgPri}
+use Rattle.model.proofs.ByCase.{anew-started}
+use Rattle.model.proofs.NumberLaws.{numbered-at}
 use Rattle.model.proofs.RefusalLaws.{none-applies, unused-free}
 use Rattle.queue.proofs.Members.{running-stood}
 use Rattle.invariant.specs.Rows.{TaskRow, taskRows, openTasks}
 use Rattle.invariant.specs.Invariant.{Invariant, Steady}
 use Rattle.invariant.proofs.Moves.{withRow, moved, movedRow}
-use Rattle.preservation.proofs.Tasks.{is-dormant, terminated-is-started, changed-is-there}
+use Rattle.preservation.proofs.Tasks.{is-dormant, terminated-is-started, changed-is-there, base-set}
 use Rattle.ledger.specs.Abstraction.{widths, ledgerOf}
 use Rattle.ledger.proofs.Tables.{withTasksAndLines}
-use Rattle.ledger.proofs.Lines.{has-line, stands-at, joined-lines}
-use Rattle.ledger.proofs.Bridge.{facts-are, known}
+use Rattle.ledger.proofs.Lines.{stands-at, joined-lines, joins-own}
+use Rattle.ledger.proofs.Bridge.{known}
 use Rattle.ledger.proofs.Entries.{task-changed, rows-entered, task-entered, task-rebased}
 use Rattle.ledger.proofs.Acts.{not-priorities}
 use Rattle.ledger.proofs.Dormant.{dormant-follows}
 use Rattle.ledger.proofs.Enters.{Enters, answers}
+
+-- a task that is there joins its line anew in the ledger where it joins its queue anew in the kernel
+module _ {w : World} (s : Steady 0 w) (t : ℕ) (low : 1 ≤ t) (high : t ≤ tasks) (there : w .kernel .tasks .place ! t ≢ absent) where
+  abbrev now : Kernel
+  now = w .kernel
+
+  abbrev own : Queue
+  own = queue (now .tasks .place ! t) (now .tasks .object ! t)
+
+  base-is : facts now .base ! t ≡ now .tasks .base ! t
+  unfolding facts
+  base-is = numbered-at (now .tasks .base) t low
+
+  rejoin-entered : rejoins (ledgerOf now) t ≡ ledgerOf (rejoin now t)
+  unfolding joinsAnew rejoins arrivesAnew rejoin
+  rejoin-entered = rw (stands-at (s .invariant) t low high, known s .sameFacts, known s .priorities, base-is) (go (arrivesAnew now t) refl)
+    where
+      go : (b : Bool) → arrivesAnew now t ≡ b
+          → cond b (join (ledgerOf now) t own) (ledgerOf now) ≡ ledgerOf (cond b (withArrivals now (arrived t (now .arrivals))) now)
+      go true e =
+          let started = anew-started now t e in
+          joins-own (s .invariant) t low high (omega arith)
+      go false e = refl
 
 module _ {x : Lent} (s : Steady 0 (begun x)) where
   abbrev k : Kernel
@@ -71,41 +96,13 @@ module _ {x : Lent} (s : Steady 0 (begun x)) where
   unfolding perform terTsk answeredWith
   terminates-task task bytes e = let n = terminated-is-started k task bytes e in answers 0 Nothing _ (dormant-follows s refl (number task) (n .0) (n .1) (n .2))
 
-  -- the base changes, and the task joins its own line anew where that is by priority
-  module _ (t : ℕ) (low : 1 ≤ t) (high : t ≤ tasks) (there : k .tasks .place ! t ≢ absent) (priority : ℤ) where
-    abbrev own : Queue
-    own = queue (k .tasks .place ! t) (k .tasks .object ! t)
-
-    abbrev based : Kernel
-    based = withBase k t (chosenBase k t priority)
-
-    based-is : onTask l t (rebased (number priority)) ≡ ledgerOf based
-    unfolding chosenBase
-    based-is = task-rebased inv t low high (number priority)
-
-    joins-anew : ready ≤ k .tasks .place ! t → join (onTask l t (rebased (number priority))) t own ≡ ledgerOf (withArrivals based (arrived t (k .arrivals)))
-    unfolding onTask withTaskEntry join depart withLines line ledgerOf facts standsIn moved withRow openTasks
-    joins-anew h =
-        let lines = rw (set-getD (k .tasks .place) t 0, set-getD (k .tasks .object) t 0) at (joined-lines inv t low high own 0 0 (has-line inv t low high h)) in
-        λ i. withTasksAndLines l (based-is i .tasks) (lines i)
-
-    rejoin-is : rejoin based t ≡ cond (byPriority (facts k) own) (withArrivals based (arrived t (k .arrivals))) based
-    unfolding rejoin byPriority facts openTasks
-    rejoin-is = refl
-
-    changes-is : changes l t (number priority) ≡ ledgerOf (rejoin based t)
-    unfolding changes byPriority
-    changes-is = rw (stands-at inv t low high, facts-are inv, rejoin-is) (go (byPriority (facts k) own) refl (ℕ-discrete (k .tasks .place ! t) dormant))
-      where
-        go : (b : Bool) → byPriority (facts k) own ≡ b → Dec (k .tasks .place ! t ≡ dormant)
-            → cond b (join (onTask l t (rebased (number priority))) t own) (onTask l t (rebased (number priority)))
-            ≡ ledgerOf (cond b (withArrivals based (arrived t (k .arrivals))) based)
-        go true e (yes d) = absurd (false≢true (rw d at e))
-        go true e (no d) = joins-anew (omega arith)
-        go false e d = based-is
-
+  -- the ledger that has the new base is that of the kernel in which priorities are settled; there the task joins anew, or not
   pub changes-priority : (task priority : ℤ) → Enters x (ChgPri task priority)
-  unfolding perform chgPri withKernel answeredWith chosenTask
+  unfolding perform chgPri withKernel answeredWith changes chosenTask chosenBase recompute openTasks
   changes-priority task priority bytes e =
+      let t = chosenTask k task in
       let n = changed-is-there k task priority bytes e in
-      answers 0 Nothing _ (rw (known s .runs) (changes-is (chosenTask k task) (n .0 .0) (n .0 .1) (n .1) priority ∙ sym (not-priorities _)))
+      let based = task-rebased inv t (n .0 .0) (n .0 .1) (number priority) ∙ sym (not-priorities _) in
+      answers 0 Nothing _
+      (rw (known s .runs)
+      (ap (λ (j : Ledger). rejoins j t) based ∙ rejoin-entered (base-set s task priority bytes e) t (n .0 .0) (n .0 .1) (n .1)))

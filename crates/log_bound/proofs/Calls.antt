@@ -1,6 +1,7 @@
 -- What each call that is not refused does to the waits of a valid state: waits end, the caller's may begin, and one delivery may be made.
-use Rattle.model.proofs.Terms.{ℕ, _+_, _*_, _≤_, arith, _≡_, _∙_, refl, sym, not, none, List, [], length, set, length-set, getD-set-other, ℤ, eqb, le-leb, eqb-false, not-true, tasks, _!_, number, E-OK, E-DLT, queue, absent, dormant, ready, locking, sending, receiving, getting, Queue, Kernel, Lent, Nothing, Message, Block, begun, running, withKernel, withOutbox, recompute, queueFront, handed, settled, arrive, recomputeIf, wait, storeMessage, firstRefusal, refusals, nobodyRuns, lockWaits, storable, freeBlock, Done, succeeds, waits, takeOldest, drain, perform, carriedOut, Outcome, creTsk, delTsk, staTsk, extTsk, terTsk, rejoin, chgPri, creMtx, delMtx, locMtx, unlMtx, creMbf, delMbf, sndMbf, rcvMbf, creMpf, delMpf, getMpf, relMpf, tickTask, tick, byPriority, fieldsOf, Wait, Valid}
+use Rattle.model.proofs.Terms.{ℕ, _+_, _*_, _≤_, arith, _≡_, _∙_, refl, sym, subst, not, none, List, [], length, set, length-set, getD-set-other, ℤ, eqb, le-leb, eqb-false, not-true, tasks, _!_, number, E-OK, E-DLT, queue, absent, dormant, ready, locking, sending, receiving, getting, Queue, Kernel, Lent, Nothing, Message, Block, begun, running, withKernel, withOutbox, queueFront, handed, settled, arrive, recomputeIf, wait, storeMessage, firstRefusal, refusals, nobodyRuns, lockWaits, storable, freeBlock, Done, succeeds, waits, takeOldest, drain, perform, carriedOut, Outcome, creTsk, delTsk, staTsk, extTsk, terTsk, chgPri, creMtx, delMtx, locMtx, unlMtx, creMbf, delMbf, sndMbf, rcvMbf, creMpf, delMpf, getMpf, relMpf, tickTask, tick, fieldsOf, Wait, Valid}
 use Rattle.model.proofs.ListLaws.{by-test}
+use Rattle.model.proofs.ByCase.{rejoin-only}
 use mathlib.Core.Logic.{⊎-elim}
 use Rattle.model.specs.declared.call.Call.{Call}
 use Rattle.model.specs.declared.call.Call.the-variants.{CreTsk, DelTsk, StaTsk, ExtTsk, TerTsk, ChgPri, CreMtx, DelMtx, LocMtx, UnlMtx, CreMbf, DelMbf, SndMbf, RcvMbf, CreMpf, DelMpf, GetMpf, RelMpf, Tick}
@@ -64,7 +65,7 @@ module _ (x : Lent) (valid : Valid x) where
         (omega (arith, waiting-set ps (running k) (q .place), waits-once (q .place)))
 
   pub performs : (c : Call) (bytes : List ℕ) → firstRefusal (refusals k c bytes) ≡ none → After c (perform (begun x) c bytes)
-  unfolding perform creTsk delTsk staTsk extTsk terTsk rejoin chgPri creMtx delMtx locMtx unlMtx creMbf delMbf sndMbf rcvMbf takeOldest creMpf delMpf
+  unfolding perform creTsk delTsk staTsk extTsk terTsk chgPri creMtx delMtx locMtx unlMtx creMbf delMbf sndMbf rcvMbf takeOldest creMpf delMpf
       getMpf relMpf tick nobodyRuns refusals fieldsOf computeKernel computeWorld settled arrive storeMessage Wait
   performs (CreTsk priority) bytes e = performed 0 (placed start _ dormant refl) (omega arith)
   performs (DelTsk task) bytes e = performed 0 (placed start _ absent refl) (omega arith)
@@ -72,7 +73,7 @@ module _ (x : Lent) (valid : Valid x) where
   performs ExtTsk bytes e = performed 0 (dormant-counts (begun x) (running k) start) (omega arith)
   performs (TerTsk task) bytes e = performed 0 (dormant-counts (begun x) (number task) start) (omega arith)
   performs (ChgPri task priority) bytes e =
-      performed 0 (by-test (λ j. Counts (waiting k) 0 (withKernel (begun x) (recompute j))) (byPriority _ _) (λ e. start) (λ e. start)) (omega arith)
+      performed 0 (subst (λ (j : Kernel). Counts (waiting k) 0 (withKernel (begun x) j)) (sym (rejoin-only _ _)) start) (omega arith)
   performs (CreMtx attribute ceiling) bytes e = performed 0 start (omega arith)
   performs (DelMtx mutex) bytes e = performed 0 (waits-end _ _ E-DLT (queue-waits k listing (queue locking (number mutex)) (omega arith)) start) (omega arith)
   performs (LocMtx mutex timeout) bytes e = by-test (After _) (lockWaits k _) (λ f. begins _ _ _ _ bytes e refl (omega arith)) (λ f. performed 0 start (omega arith))

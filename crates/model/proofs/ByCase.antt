@@ -2,7 +2,7 @@
 use Prim.Native.Nat.{ℕ, zero, suc, pred, _≤_, _<_}
 use mathlib.Core.Path.{_≡_, refl}
 use mathlib.Core.Logic.{_≢_}
-use mathlib.Core.Bool.{Bool, true, false}
+use mathlib.Core.Bool.{Bool, true, false, false≢true, and-eq-true-iff}
 use mathlib.Core.List.{List, [], _∷_}
 use mathlib.Core.Option.{none, some}
 use lib.ListN.{length}
@@ -15,19 +15,21 @@ use Rattle.model.specs.declared.call.Progress.the-variants.{NoArea}
 use Rattle.model.specs.Sizes.{endless, logBytes, scriptBytes}
 use Rattle.model.specs.Lists.{_!_, firstWhere}
 use Rattle.model.specs.Code.{E-OK, E-SYS, E-TMOUT}
-use Rattle.model.specs.Facts.{queue, locking, sending, receiving, getting}
-use Rattle.model.specs.Kernel.{Kernel, withCurrents, withHolder, withLeft, withTaken, slot}
+use Rattle.model.specs.Facts.{queue, dormant, locking, sending, receiving, getting}
+use Rattle.model.specs.Queue.{byPriority}
+use Rattle.model.specs.Kernel.{Kernel, facts, withArrivals, withCurrents, withHolder, withLeft, withTaken, slot}
 use Rattle.model.specs.World.{World, Lent, Nothing, begun, withKernel, queueFront, recompute, running, withOutbox, Message, Block}
 use Rattle.model.specs.Message.{withOutboxMessage}
 use Rattle.model.specs.Act.{recomputeIf, leaveOutbox, settled, endWait, release, serve, wait, storeMessage}
 use Rattle.model.specs.Refusal.{Refusal, firstRefusal, refusals, lockWaits, storable, freeBlock}
-use Rattle.model.specs.Effect.{effect, tickTask, locMtx, sndMbf, getMpf, relMpf, waits, succeeds, answered}
+use Rattle.model.specs.Effect.{effect, arrivesAnew, rejoin, tickTask, locMtx, sndMbf, getMpf, relMpf, waits, succeeds, answered}
 use Rattle.model.specs.Valid.{valid}
 use Rattle.model.specs.Step.{carriedOut, refused, validStep, step}
 use Rattle.model.specs.Record.{readRecord, recordMessage}
 use Rattle.model.specs.Log.{stopBytes, tooLongBytes, outcomeLog}
 use Rattle.model.specs.Lent.{Areas, lent, isValid, notValid, untouched, returned, lentStep, scriptOver, went, lentRecord}
 use Rattle.model.specs.Script.{ran, logThen, runFrom, run, runScript}
+use Rattle.model.proofs.ListLaws.{either}
 
 -- ---- the first that passes a test
 
@@ -54,6 +56,16 @@ module _ (k : Kernel) where
   unfolding recomputeIf recompute withCurrents
   recompute-only true = refl
   recompute-only false = refl
+
+  -- nothing but arrivals
+  pub rejoin-only : (t : ℕ) → rejoin k t ≡ withArrivals k (rejoin k t .arrivals)
+  unfolding rejoin withArrivals
+  rejoin-only t = either (λ (j : Kernel). j ≡ withArrivals k (j .arrivals)) (arrivesAnew k t) refl refl
+
+  -- a dormant task does not arrive
+  pub anew-started : (t : ℕ) → arrivesAnew k t ≡ true → k .tasks .place ! t ≢ dormant
+  unfolding arrivesAnew byPriority
+  anew-started t e d = false≢true (rw d at (and-eq-true-iff (byPriority (facts k) (queue (k .tasks .place ! t) (k .tasks .object ! t))) _ .0 e .0))
 
   module _ (outbox : List ℕ) (t : ℕ) where
     pub leaves-sending : k .tasks .place ! t ≡ sending → leaveOutbox k outbox t ≡ withOutboxMessage t outbox []

@@ -33,7 +33,7 @@ unfoldable pub use Rattle.model.specs.Act.{arrive, recomputeIf, settled,
 pub use Rattle.model.specs.Act.{millis, serve}
 unfoldable pub use Rattle.model.specs.Refusal.{nobodyRuns, badAttribute, badTimeout, badField, dirtyTail, badNumber, noSuch, handedOut, chosenTask, chosenBase, aboveCeiling, noneFree, poolSum, noTime, lockWaits, storable, sendWaits, receiveWaits, freeBlock, creTskRefusals, dormantRefusals, terTskRefusals, chgPriRefusals, creMtxRefusals, locMtxRefusals, unlMtxRefusals, creMbfRefusals, sndMbfRefusals, rcvMbfRefusals, creMpfRefusals, getMpfRefusals, relMpfRefusals, deletionRefusals, refusals}
 pub use Rattle.model.specs.Refusal.{Refusal, refuse, firstRefusal, outside, mutexAttributes, bufferAttributes, poolAttributes}
-unfoldable pub use Rattle.model.specs.Effect.{creTsk, delTsk, staTsk, extTsk, terTsk, rejoin, chgPri, creMtx, delMtx, locMtx, unlMtx, creMbf, delMbf, sndMbf, takeOldest, rcvMbf, creMpf, delMpf, getMpf, relMpf, tickTask, tick, perform, effect}
+unfoldable pub use Rattle.model.specs.Effect.{creTsk, delTsk, staTsk, extTsk, terTsk, arrivesAnew, rejoin, chgPri, creMtx, delMtx, locMtx, unlMtx, creMbf, delMbf, sndMbf, takeOldest, rcvMbf, creMpf, delMpf, getMpf, relMpf, tickTask, tick, perform, effect}
 pub use Rattle.model.specs.Effect.{Done, answered, succeeds, waits}
 unfoldable pub use Rattle.model.specs.Valid.{TaskRange, taskRange, MutexRange, mutexRange, BufferRange, bufferRange, PoolRange, poolRange, BlockFlag, blockFlag, awaitable, Argument, argument, Wait, waitFields, Arrivals, arrivals, Priorities, currentPriorities, Ceiling, ceiling, Locking, lockingTask, Getting, gettingTask, Receiving, receivingTask, FirstSender, firstSender, Outbox, outboxPart, valid}
 pub use Rattle.model.specs.Valid.{Each, taskLists, mutexLists, bufferLists, poolLists, ByNumber, TaskLists, MutexLists, BufferLists, PoolLists, lists, Lengths, lengths, From, Layout, layout, RegionLayout, regionLayout, Valid}
@@ -49,5 +49,5 @@ unfoldable pub use Rattle.model.specs.Script.{run, runScript, scriptLog}
 pub use Rattle.model.specs.Script.{Ran, ran, logThen, runFrom}
 unfoldable pub use Rattle.model.specs.Lent.{isValid, withLog, untouched, notValid, returned, lentStep, scriptOver, went, lentRecord}
 pub use Rattle.model.specs.Lent.{lent, Areas, Returned, Went, progressAnswer}
-unfoldable pub use Rattle.model.specs.Ledger.{withTaskEntry, withMutexEntry, withBufferEntry, withPoolEntry, withLines, freshLedger, line, depart, join, lineOf, standing, ledgerFacts, ledgerPriorities, ledgerOrder, ledgerRuns, onTask, holds, onMutex, fallsDormant, starts, rebased, changes, answeredWith, waitsIn, waiting, endsWait, entered}
+unfoldable pub use Rattle.model.specs.Ledger.{withTaskEntry, withMutexEntry, withBufferEntry, withPoolEntry, withLines, freshLedger, line, depart, join, lineOf, standing, ledgerFacts, ledgerPriorities, ledgerOrder, ledgerRuns, onTask, holds, onMutex, fallsDormant, starts, rebased, joinsAnew, rejoins, changes, answeredWith, waitsIn, waiting, endsWait, entered}
 pub use Rattle.model.specs.Ledger.{TaskEntry, MutexEntry, Ledger, entries}

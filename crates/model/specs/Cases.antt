@@ -1,4 +1,4 @@
--- 01, "On both sides of the mark": every bullet that has a [P], whole, and beside them a case for sentences that no bullet holds, and both sides of 02's request Two, as
+-- 01, "On both sides of the mark": every bullet that has a [P], whole, and beside them a case for sentences that no bullet holds, and both sides of 02's requests Two and Five, as
 -- one table under one statement, proved by computing.
 use Prim.Native.Nat.{ℕ, suc, pred}
 use mathlib.Core.Path.{_≡_, refl}
@@ -7,14 +7,15 @@ use mathlib.Core.List.{List, [], _∷_, _++_, map, foldl}
 use lib.ListN.{length, getD}
 use lib.IntN.{ℤ, pos}
 use Rattle.model.specs.declared.call.Call.{Call}
-use Rattle.model.specs.declared.call.Call.the-variants.{CreTsk, StaTsk, ChgPri, CreMtx, LocMtx, UnlMtx, CreMbf, DelMbf, SndMbf, RcvMbf, CreMpf, GetMpf, Tick}
+use Rattle.model.specs.declared.call.Call.the-variants.{CreTsk, StaTsk, ChgPri, CreMtx, LocMtx, UnlMtx, CreMbf, DelMbf, SndMbf, RcvMbf, CreMpf, GetMpf, RelMpf, Tick}
 use Rattle.model.specs.declared.call.Answer.{Answer}
 use Rattle.model.specs.declared.call.Answer.the-variants.{Code, Waits}
 use Rattle.model.specs.Sizes.{messageBytes, storeBytes, outboxBytes}
 use Rattle.model.specs.Lists.{_!_, upTo, zeros}
 use Rattle.model.specs.Code.{minus, E-OK, E-SYS, E-PAR, E-NOEXS, E-ILUSE, E-TMOUT, E-DLT, number}
+use Rattle.model.specs.Facts.{queue, locking}
 use Rattle.model.specs.Kernel.{fresh}
-use Rattle.model.specs.World.{Lent, Delivery, Nothing, Message, Block, running}
+use Rattle.model.specs.World.{Lent, Delivery, Nothing, Message, Block, queueFront, running}
 use Rattle.model.specs.Message.{part}
 use Rattle.model.specs.Record.{fieldsOf}
 use Rattle.model.specs.Valid.{valid}
@@ -322,13 +323,144 @@ circleLowers =
     case (circle ++ Tick ∷ LocMtx (pos 1) (pos 1) ∷ Tick ∷ []) (current 2 ∷ current 1 ∷ [])
     (seen (inCircle ++ OK ∷ Waits ∷ OK ∷ []) ((1, E-TMOUT) ∷ (3, E-TMOUT) ∷ (3, E-TMOUT) ∷ []) [] (8 ∷ 8 ∷ []))
 
--- ---- queues
+-- ---- 02, request Five: chg_pri counts as joining anew "only if current and base priority are equal afterwards; a task kept up by a mutex keeps its joining"
 
--- "chg_pri counts as joining anew": task 1 gets the priority that it has, and stands behind task 2, which has it too and runs then
-joinsAnew : Case
-joinsAnew =
-    case (CreTsk (pos 8) ∷ StaTsk (pos 2) ∷ ChgPri (pos 0) (pos 8) ∷ []) (current 1 ∷ (λ x. running (x .kernel)) ∷ [])
+abbrev runs : Lent → ℕ
+runs x = running (x .kernel)
+
+-- Not raised: task 1 gets the priority that it has, by its number or as the initial one, and stands behind task 2, which has it too and runs then;
+abbrev equalReady : ℤ → Case
+equalReady base =
+    case (CreTsk (pos 8) ∷ StaTsk (pos 2) ∷ ChgPri (pos 0) base ∷ []) (current 1 ∷ runs ∷ [])
     (seen (new 2 ∷ OK ∷ OK ∷ []) [] [] (8 ∷ 2 ∷ []))
+
+notRaised : Case
+notRaised = equalReady (pos 8)
+
+initialAgain : Case
+initialAgain = equalReady (pos 0)
+
+-- or that of task 2, which is not its own until priorities are settled.
+equalAfterwards : Case
+equalAfterwards =
+    case (second ++ ChgPri (pos 0) (pos 9) ∷ []) (current 1 ∷ runs ∷ [])
+    (seen (new 2 ∷ OK ∷ OK ∷ []) [] [] (9 ∷ 2 ∷ []))
+
+-- Task 1 (8) holds mutex 1, of attribute 2, for which task 2 (4) waits, and so has 4, as task 3, which stands ready behind it. Then bases are changed, of these tasks
+-- to these.
+abbrev inherited : List (ℕ × ℕ) → ℕ → Case
+inherited changes who =
+    case
+    (CreMtx (pos 2) (pos 0) ∷ LocMtx (pos 1) forever ∷ CreTsk (pos 4) ∷ StaTsk (pos 2) ∷ LocMtx (pos 1) forever ∷ CreTsk (pos 4) ∷ StaTsk (pos 3)
+    ∷ map (λ c. ChgPri (pos (c .0)) (pos (c .1))) changes)
+    (current 1 ∷ runs ∷ []) (seen (new 1 ∷ OK ∷ new 2 ∷ OK ∷ Waits ∷ new 3 ∷ OK ∷ map (λ c. OK) changes) [] [] (4 ∷ who ∷ []))
+
+-- down, up, to the base that it has, to the initial one: it keeps its place
+keptUp : Case
+keptUp = inherited ((1, 10) ∷ (1, 6) ∷ (1, 6) ∷ (1, 0) ∷ []) 1
+
+-- raised to exactly its new base: it joins anew, though the mutex would keep it there
+raisedExactly : Case
+raisedExactly = inherited ((1, 4) ∷ []) 3
+
+-- then task 3 goes behind it, and its base falls below what the mutex keeps it at: equal before, not afterwards
+keptUpAfterwards : Case
+keptUpAfterwards = inherited ((1, 4) ∷ (3, 4) ∷ (1, 10) ∷ []) 1
+
+-- the same from 2, so that its current priority changes too: it keeps its joining, and stands before task 3
+keptUpLowered : Case
+keptUpLowered = inherited ((1, 2) ∷ (3, 4) ∷ (1, 10) ∷ []) 1
+
+-- "A change caused by mutexes doesn't alter when a task joined": task 2 waits for task 1's mutex, and its base falls, so that task 1 has its own, 8, again, as task 3,
+-- which stands ready behind it
+holderLowered : Case
+holderLowered =
+    case
+    (CreMtx (pos 2) (pos 0) ∷ LocMtx (pos 1) forever ∷ CreTsk (pos 4) ∷ StaTsk (pos 2) ∷ LocMtx (pos 1) forever ∷ CreTsk (pos 8) ∷ StaTsk (pos 3)
+    ∷ ChgPri (pos 2) (pos 9) ∷ [])
+    (current 1 ∷ runs ∷ []) (seen (new 1 ∷ OK ∷ new 2 ∷ OK ∷ Waits ∷ new 3 ∷ OK ∷ OK ∷ []) [] [] (8 ∷ 1 ∷ []))
+
+-- Raised by a ceiling: task 1 (8) holds mutex 1 with ceiling 4, and so has 4, as task 2, which stands ready behind it.
+abbrev underCeiling : ℤ → ℕ → Case
+underCeiling base who =
+    case (CreMtx (pos 3) (pos 4) ∷ LocMtx (pos 1) forever ∷ CreTsk (pos 4) ∷ StaTsk (pos 2) ∷ ChgPri (pos 0) base ∷ [])
+    (current 1 ∷ runs ∷ []) (seen (new 1 ∷ OK ∷ new 2 ∷ OK ∷ OK ∷ []) [] [] (4 ∷ who ∷ []))
+
+ceilingKeepsUp : Case
+ceilingKeepsUp = underCeiling (pos 10) 1
+
+ceilingExactly : Case
+ceilingExactly = underCeiling (pos 4) 2
+
+-- Waits: task 1 has the only block of a pool with this attribute; task 2 (6) waits for it and holds mutex 1, of attribute 2, for which task 3 (5) waits; task 4 (5)
+-- waits for the block behind task 2. Task 1 changes task 2's base and returns the block, which the first of the two gets.
+abbrev inPool : ℤ → ℤ → ℕ → ℕ → Case
+inPool attribute base p first =
+    case
+    (CreMpf attribute (pos 1) (pos 1) ∷ GetMpf (pos 1) forever ∷ CreMtx (pos 2) (pos 0) ∷ CreTsk (pos 6) ∷ StaTsk (pos 2) ∷ LocMtx (pos 1) forever ∷ GetMpf (pos 1) forever
+    ∷ CreTsk (pos 5) ∷ StaTsk (pos 3) ∷ LocMtx (pos 1) forever ∷ CreTsk (pos 5) ∷ StaTsk (pos 4) ∷ GetMpf (pos 1) forever
+    ∷ ChgPri (pos 2) base ∷ RelMpf (pos 1) (pos 1) ∷ [])
+    (current 2 ∷ [])
+    (seen (new 1 ∷ OK ∷ new 1 ∷ new 2 ∷ OK ∷ OK ∷ Waits ∷ new 3 ∷ OK ∷ Waits ∷ new 4 ∷ OK ∷ Waits ∷ OK ∷ OK ∷ []) ((first, E-OK) ∷ [])
+    ((1, Block 1) ∷ (first, Block 1) ∷ []) (p ∷ []))
+
+-- by priority
+poolKeptUp : Case
+poolKeptUp = inPool (pos 1) (pos 7) 5 2
+
+poolExactly : Case
+poolExactly = inPool (pos 1) (pos 5) 5 4
+
+-- not raised: task 2 (5) waits before task 3 (6), until it has 6 too
+poolNotRaised : Case
+poolNotRaised =
+    case
+    (CreMpf (pos 1) (pos 1) (pos 1) ∷ GetMpf (pos 1) forever ∷ CreTsk (pos 5) ∷ StaTsk (pos 2) ∷ GetMpf (pos 1) forever
+    ∷ CreTsk (pos 6) ∷ StaTsk (pos 3) ∷ GetMpf (pos 1) forever ∷ ChgPri (pos 2) (pos 6) ∷ RelMpf (pos 1) (pos 1) ∷ [])
+    (current 2 ∷ [])
+    (seen (new 1 ∷ OK ∷ new 2 ∷ OK ∷ Waits ∷ new 3 ∷ OK ∷ Waits ∷ OK ∷ OK ∷ []) ((3, E-OK) ∷ []) ((1, Block 1) ∷ (3, Block 1) ∷ []) (6 ∷ []))
+
+-- by arrival: it keeps its place either way, raised or not
+arrivalKeptUp : Case
+arrivalKeptUp = inPool (pos 0) (pos 7) 5 2
+
+arrivalExactly : Case
+arrivalExactly = inPool (pos 0) (pos 5) 5 2
+
+arrivalNotRaised : Case
+arrivalNotRaised = inPool (pos 0) (pos 3) 3 2
+
+-- Senders, by priority: task 2 (6) sends what does not fit, and holds mutex 1, of attribute 2, for which task 3 (5) waits; task 4 (5) sends behind it what fits. Task 1
+-- changes task 2's base: what task 4 sends is stored as soon as it is the first.
+abbrev inSenders : ℤ → List (ℕ × ℤ) → ℕ → Case
+inSenders base ended n =
+    case
+    (CreMbf (pos 1) (pos 8) (pos 32) ∷ CreMtx (pos 2) (pos 0) ∷ CreTsk (pos 6) ∷ StaTsk (pos 2) ∷ LocMtx (pos 1) forever ∷ SndMbf (pos 1) (pos 16) forever
+    ∷ CreTsk (pos 5) ∷ StaTsk (pos 3) ∷ LocMtx (pos 1) forever ∷ CreTsk (pos 5) ∷ StaTsk (pos 4) ∷ SndMbf (pos 1) (pos 4) forever ∷ ChgPri (pos 2) base ∷ [])
+    (current 2 ∷ used 1 ∷ [])
+    (seen (new 1 ∷ new 1 ∷ new 2 ∷ OK ∷ OK ∷ Waits ∷ new 3 ∷ OK ∷ Waits ∷ new 4 ∷ OK ∷ Waits ∷ OK ∷ []) ended [] (5 ∷ n ∷ []))
+
+senderKeptUp : Case
+senderKeptUp = inSenders (pos 7) [] 0
+
+senderExactly : Case
+senderExactly = inSenders (pos 5) ((4, E-OK) ∷ []) 8
+
+-- A circle: tasks 2 (6) and 3 (4) hold mutexes 1 and 2, of attribute 2, and wait for the other's; task 4 (2) waits for mutex 1 behind task 3, so that all three have 2.
+-- Task 1 changes task 3's base; the first that waits for mutex 1 is seen.
+abbrev inQueueOfCircle : ℤ → ℕ → Case
+inQueueOfCircle base first =
+    case
+    (CreMtx (pos 2) (pos 0) ∷ CreMtx (pos 2) (pos 0) ∷ CreTsk (pos 6) ∷ CreTsk (pos 4) ∷ CreTsk (pos 2) ∷ StaTsk (pos 2) ∷ LocMtx (pos 1) forever ∷ StaTsk (pos 3)
+    ∷ LocMtx (pos 2) forever ∷ LocMtx (pos 1) forever ∷ LocMtx (pos 2) forever ∷ StaTsk (pos 4) ∷ LocMtx (pos 1) forever ∷ ChgPri (pos 3) base ∷ [])
+    (current 2 ∷ current 3 ∷ (λ x. queueFront (x .kernel) (queue locking 1)) ∷ [])
+    (seen (new 1 ∷ new 2 ∷ new 2 ∷ new 3 ∷ new 4 ∷ OK ∷ OK ∷ OK ∷ OK ∷ Waits ∷ Waits ∷ OK ∷ Waits ∷ OK ∷ []) [] [] (2 ∷ 2 ∷ first ∷ []))
+
+circleKeepsUp : Case
+circleKeepsUp = inQueueOfCircle (pos 5) 3
+
+circleExactly : Case
+circleExactly = inQueueOfCircle (pos 2) 4
 
 -- ---- refusals
 
@@ -385,7 +517,26 @@ table =
     ∷ circleStands
     ∷ circleRaises
     ∷ circleLowers
-    ∷ joinsAnew
+    ∷ notRaised
+    ∷ initialAgain
+    ∷ equalAfterwards
+    ∷ keptUp
+    ∷ raisedExactly
+    ∷ keptUpAfterwards
+    ∷ keptUpLowered
+    ∷ holderLowered
+    ∷ ceilingKeepsUp
+    ∷ ceilingExactly
+    ∷ poolKeptUp
+    ∷ poolExactly
+    ∷ poolNotRaised
+    ∷ arrivalKeptUp
+    ∷ arrivalExactly
+    ∷ arrivalNotRaised
+    ∷ senderKeptUp
+    ∷ senderExactly
+    ∷ circleKeepsUp
+    ∷ circleExactly
     ∷ notHeld
     ∷ storeOf (pred storeBytes) (Code E-SYS)
     ∷ storeOf storeBytes OK
@@ -518,9 +669,85 @@ circleLowers-holds : observed circleLowers ≡ circleLowers .seen
 unfolding compute observed circleLowers
 circleLowers-holds = refl
 
-joinsAnew-holds : observed joinsAnew ≡ joinsAnew .seen
-unfolding compute observed joinsAnew
-joinsAnew-holds = refl
+notRaised-holds : observed notRaised ≡ notRaised .seen
+unfolding compute observed notRaised
+notRaised-holds = refl
+
+initialAgain-holds : observed initialAgain ≡ initialAgain .seen
+unfolding compute observed initialAgain
+initialAgain-holds = refl
+
+equalAfterwards-holds : observed equalAfterwards ≡ equalAfterwards .seen
+unfolding compute observed equalAfterwards
+equalAfterwards-holds = refl
+
+keptUp-holds : observed keptUp ≡ keptUp .seen
+unfolding compute observed keptUp
+keptUp-holds = refl
+
+raisedExactly-holds : observed raisedExactly ≡ raisedExactly .seen
+unfolding compute observed raisedExactly
+raisedExactly-holds = refl
+
+keptUpAfterwards-holds : observed keptUpAfterwards ≡ keptUpAfterwards .seen
+unfolding compute observed keptUpAfterwards
+keptUpAfterwards-holds = refl
+
+keptUpLowered-holds : observed keptUpLowered ≡ keptUpLowered .seen
+unfolding compute observed keptUpLowered
+keptUpLowered-holds = refl
+
+holderLowered-holds : observed holderLowered ≡ holderLowered .seen
+unfolding compute observed holderLowered
+holderLowered-holds = refl
+
+ceilingKeepsUp-holds : observed ceilingKeepsUp ≡ ceilingKeepsUp .seen
+unfolding compute observed ceilingKeepsUp
+ceilingKeepsUp-holds = refl
+
+ceilingExactly-holds : observed ceilingExactly ≡ ceilingExactly .seen
+unfolding compute observed ceilingExactly
+ceilingExactly-holds = refl
+
+poolKeptUp-holds : observed poolKeptUp ≡ poolKeptUp .seen
+unfolding compute observed poolKeptUp
+poolKeptUp-holds = refl
+
+poolExactly-holds : observed poolExactly ≡ poolExactly .seen
+unfolding compute observed poolExactly
+poolExactly-holds = refl
+
+poolNotRaised-holds : observed poolNotRaised ≡ poolNotRaised .seen
+unfolding compute observed poolNotRaised
+poolNotRaised-holds = refl
+
+arrivalKeptUp-holds : observed arrivalKeptUp ≡ arrivalKeptUp .seen
+unfolding compute observed arrivalKeptUp
+arrivalKeptUp-holds = refl
+
+arrivalExactly-holds : observed arrivalExactly ≡ arrivalExactly .seen
+unfolding compute observed arrivalExactly
+arrivalExactly-holds = refl
+
+arrivalNotRaised-holds : observed arrivalNotRaised ≡ arrivalNotRaised .seen
+unfolding compute observed arrivalNotRaised
+arrivalNotRaised-holds = refl
+
+senderKeptUp-holds : observed senderKeptUp ≡ senderKeptUp .seen
+unfolding compute observed senderKeptUp
+senderKeptUp-holds = refl
+
+senderExactly-holds : observed senderExactly ≡ senderExactly .seen
+unfolding compute observed senderExactly
+senderExactly-holds = refl
+
+circleKeepsUp-holds : observed circleKeepsUp ≡ circleKeepsUp .seen
+unfolding compute observed circleKeepsUp
+circleKeepsUp-holds = refl
+
+circleExactly-holds : observed circleExactly ≡ circleExactly .seen
+unfolding compute observed circleExactly
+circleExactly-holds = refl
 
 notHeld-holds : observed notHeld ≡ notHeld .seen
 unfolding compute observed notHeld
@@ -533,7 +760,7 @@ storeOf-holds = (refl, (refl, (refl, tt)))
 pub cases : AllHold table
 unfolding table
 cases =
-    (noMessage-holds, (oneByte-holds, (eighthWaits-holds, (tooSmall-holds, (justFits-holds, (oldestFirst-holds, (handedOver-holds, (fewBytes-holds, (longestMessage-holds, (timeouts-holds, (ceilings-holds, (noPassing-holds, (lastDrained-holds, (senderDeleted-holds, (nextDirty-holds, (lastDirty-holds, (dirtyBehind31-holds, (cleanTail-holds, (noTail-holds, (beyondMessage-holds, (tooLong-holds, (tooLongClean-holds, (tooLongMissing-holds, (dirtyMissing-holds, (dirtyNumberless-holds, (chainRaises-holds, (chainLowers-holds, (circleStands-holds, (circleRaises-holds, (circleLowers-holds, (joinsAnew-holds, (notHeld-holds, storeOf-holds))))))))))))))))))))))))))))))))
+    (noMessage-holds, (oneByte-holds, (eighthWaits-holds, (tooSmall-holds, (justFits-holds, (oldestFirst-holds, (handedOver-holds, (fewBytes-holds, (longestMessage-holds, (timeouts-holds, (ceilings-holds, (noPassing-holds, (lastDrained-holds, (senderDeleted-holds, (nextDirty-holds, (lastDirty-holds, (dirtyBehind31-holds, (cleanTail-holds, (noTail-holds, (beyondMessage-holds, (tooLong-holds, (tooLongClean-holds, (tooLongMissing-holds, (dirtyMissing-holds, (dirtyNumberless-holds, (chainRaises-holds, (chainLowers-holds, (circleStands-holds, (circleRaises-holds, (circleLowers-holds, (notRaised-holds, (initialAgain-holds, (equalAfterwards-holds, (keptUp-holds, (raisedExactly-holds, (keptUpAfterwards-holds, (keptUpLowered-holds, (holderLowered-holds, (ceilingKeepsUp-holds, (ceilingExactly-holds, (poolKeptUp-holds, (poolExactly-holds, (poolNotRaised-holds, (arrivalKeptUp-holds, (arrivalExactly-holds, (arrivalNotRaised-holds, (senderKeptUp-holds, (senderExactly-holds, (circleKeepsUp-holds, (circleExactly-holds, (notHeld-holds, storeOf-holds)))))))))))))))))))))))))))))))))))))))))))))))))))
 
 -- the fresh state is valid
 pub fresh-valid : valid freshLent ≡ true

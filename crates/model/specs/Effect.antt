@@ -1,6 +1,6 @@
 -- 01, "Effects": what each call does once no refusal applies.
 use Prim.Native.Nat.{ℕ, _+_, _-_, pred}
-use mathlib.Core.Bool.{_||_, not, cond}
+use mathlib.Core.Bool.{Bool, _&&_, _||_, not, cond}
 use mathlib.Core.List.{List, _++_, foldl}
 use lib.ListN.{length, take}
 use lib.IntN.{ℤ, pos}
@@ -58,16 +58,19 @@ extTsk w = record { answer = Exits; delivery = Nothing; world = becomeDormant w 
 unfoldable pub terTsk : World → ℕ → Done
 terTsk w t = succeeds (becomeDormant w t)
 
--- "chg_pri counts as joining anew, except in lines by joining only"; a dormant task stands in no queue
-unfoldable pub rejoin : Kernel → ℕ → Kernel
-rejoin k t =
-    cond (byPriority (facts k) (queue (k .tasks .place ! t) (k .tasks .object ! t)))
-    (withArrivals k (arrived t (k .arrivals)))
-    k
+-- "chg_pri counts as joining anew, except in lines by joining only"; by 02, request Five, "only if current and base priority are
+-- equal afterwards; a task kept up by a mutex keeps its joining". A dormant task stands in no queue.
+unfoldable pub arrivesAnew : Kernel → ℕ → Bool
+arrivesAnew k t =
+    byPriority (facts k) (queue (k .tasks .place ! t) (k .tasks .object ! t)) && eqb (k .tasks .current ! t) (k .tasks .base ! t)
 
+unfoldable pub rejoin : Kernel → ℕ → Kernel
+rejoin k t = cond (arrivesAnew k t) (withArrivals k (arrived t (k .arrivals))) k
+
+-- "afterwards": the base is set and priorities are settled before the two are compared
 unfoldable pub chgPri : World → ℕ → ℤ → Done
 chgPri w t p =
-    succeeds (withKernel w (recompute (rejoin (withBase (w .kernel) t (chosenBase (w .kernel) t p)) t)))
+    succeeds (withKernel w (rejoin (recompute (withBase (w .kernel) t (chosenBase (w .kernel) t p))) t))
 
 -- ---- mutexes
 
@@ -215,6 +218,6 @@ effect w c bytes =
 
 -- what has to unfold for the definitions of this file to compute
 unfoldable pub computeEffect : Unit {0}
-unfolding creTsk delTsk staTsk extTsk terTsk rejoin chgPri creMtx delMtx locMtx unlMtx creMbf delMbf sndMbf takeOldest rcvMbf
+unfolding creTsk delTsk staTsk extTsk terTsk arrivesAnew rejoin chgPri creMtx delMtx locMtx unlMtx creMbf delMbf sndMbf takeOldest rcvMbf
     creMpf delMpf getMpf relMpf tickTask tick perform effect
 computeEffect = tt

@@ -13,7 +13,7 @@ use Rattle.model.specs.declared.call.Call.the-variants.{CreTsk, DelTsk, 
 use Rattle.model.specs.declared.call.Answer.{Answer}
 use Rattle.model.specs.declared.call.Answer.the-variants.{Code, Waits, Exits}
 use Rattle.model.specs.Sizes.{tasks, mutexes, buffers, pools}
-use Rattle.model.specs.Lists.{countFrom, upTo, any, member, without, placeWhere, headOf}
+use Rattle.model.specs.Lists.{_!_, countFrom, upTo, any, member, without, placeWhere, headOf}
 use Rattle.model.specs.Code.{number}
 use Rattle.model.specs.Facts.{Facts, Queue, queue, readyQueue, absent, dormant, locking, sending, receiving, getting, ceilinged}
 use Rattle.model.specs.Priority.{effectives}
@@ -157,18 +157,24 @@ unfoldable pub starts : Ledger → ℕ → Ledger
 starts l t =
     join (onTask l t (λ e. record { base = e .base; initial = e .initial; started = true })) t readyQueue
 
--- "chg_pri sets the base; the task joins anew where `Lines` says so." Task 0 is the caller, priority 0 the initial one.
+-- "chg_pri sets the base", 0 for the initial priority
 unfoldable pub rebased : ℕ → TaskEntry → TaskEntry
 rebased p e = record { base = cond (eqb p 0) (e .initial) p; initial = e .initial; started = e .started }
 
+-- "the task joins anew where `Lines` says so": in a line by priority, and, by 02, request Five, "only if current and base priority are
+-- equal", both as this ledger gives them
+unfoldable pub joinsAnew : Ledger → ℕ → Bool
+joinsAnew l t = byPriority (ledgerFacts l) (standing l t) && eqb (ledgerPriorities l ! t) (ledgerFacts l .base ! t)
+
+unfoldable pub rejoins : Ledger → ℕ → Ledger
+rejoins l t = cond (joinsAnew l t) (join l t (standing l t)) l
+
+-- "afterwards": in the ledger that has the new base
 unfoldable pub changes : Ledger → ℕ → ℕ → Ledger
-changes l t p =
-    let d = onTask l t (rebased p) in
-    let q = standing l t in
-    cond (byPriority (ledgerFacts l) q) (join d t q) d
+changes l t p = rejoins (onTask l t (rebased p)) t
 
 -- a call answered with a code that is not negative: "A creation enters the answered number, a task dormant, a mutex free; a
--- deletion strikes it out."
+-- deletion strikes it out." Task 0 of chg_pri is the caller.
 unfoldable pub answeredWith : Ledger → Call → ℕ → Ledger
 answeredWith l (CreTsk priority) n = withTaskEntry l n (some (record { base = number priority; initial = number priority; started = false }))
 answeredWith l (DelTsk task) n = withTaskEntry l (number task) none
@@ -235,6 +241,6 @@ entered l c Exits ended = foldl endsWait (fallsDormant l (ledgerRuns l)) ended
 -- what has to unfold for the definitions of this file to compute
 unfoldable pub computeLedger : Unit {0}
 unfolding withTaskEntry withMutexEntry withBufferEntry withPoolEntry withLines freshLedger line depart join lineOf standing
-    ledgerFacts ledgerPriorities ledgerOrder ledgerRuns onTask holds onMutex fallsDormant starts rebased changes answeredWith
+    ledgerFacts ledgerPriorities ledgerOrder ledgerRuns onTask holds onMutex fallsDormant starts rebased joinsAnew rejoins changes answeredWith
     waitsIn waiting endsWait entered
 computeLedger = tt

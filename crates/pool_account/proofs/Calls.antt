@@ -1,7 +1,7 @@
 -- One call: whatever it is, the pools' accounts balance after it if they did before, and it delivers the blocks that they count. From a valid state.
-use Rattle.model.proofs.Terms.{ℕ, _≤_, ℕ-discrete, arith, _≡_, _∙_, refl, sym, subst, _≢_, inl, inr, cond, Option, none, some, List, foldl, set, getD-set-same, getD-set-other, pos, eqb, eq-eqb, ne-eqb, eqb-false, not, not-false, tasks, pools, blocks, _!_, upTo, E-OK, E-DLT, E-TMOUT, endless, _||_, number, getting, sending, receiving, queue, byPriority, withTaken, Pools, Kernel, slot, withKernel, queueFront, running, Lent, World, begun, recompute, Block, Message, Nothing, arrive, settled, leaveKernel, leave, becomeDormant, unused, lockWaits, storable, freeBlock, refusals, firstRefusal, outside, Done, creTsk, delTsk, staTsk, extTsk, terTsk, rejoin, chgPri, creMtx, delMtx, locMtx, unlMtx, creMbf, delMbf, storeMessage, sndMbf, takeOldest, rcvMbf, creMpf, delMpf, tickTask, tick, perform, effect, Each, From, Valid, refused, carriedOut, validStep, step, Outcome}
+use Rattle.model.proofs.Terms.{ℕ, _≤_, ℕ-discrete, arith, _≡_, _∙_, refl, sym, ap, subst, _≢_, inl, inr, cond, Option, none, some, List, foldl, set, getD-set-same, getD-set-other, pos, eqb, eq-eqb, ne-eqb, eqb-false, not, not-false, tasks, pools, blocks, _!_, upTo, E-OK, E-DLT, E-TMOUT, endless, _||_, number, getting, sending, receiving, queue, withTaken, Pools, Kernel, slot, withKernel, queueFront, running, Lent, World, begun, Block, Message, Nothing, arrive, settled, leaveKernel, leave, becomeDormant, unused, lockWaits, storable, freeBlock, refusals, firstRefusal, outside, Done, creTsk, delTsk, staTsk, extTsk, terTsk, chgPri, creMtx, delMtx, locMtx, unlMtx, creMbf, delMbf, storeMessage, sndMbf, takeOldest, rcvMbf, creMpf, delMpf, tickTask, tick, perform, effect, Each, From, Valid, refused, carriedOut, validStep, step, Outcome}
 use Rattle.model.proofs.ListLaws.{either}
-use Rattle.model.proofs.ByCase.{get-waits, get-block, return-free, return-next, step-valid}
+use Rattle.model.proofs.ByCase.{rejoin-only, get-waits, get-block, return-free, return-next, step-valid}
 use Rattle.model.proofs.Folds.{numbers-keep}
 use Rattle.model.proofs.RefusalLaws.{EachCode, of-first, none-applies, in-range, first-zero, unused-free}
 use Rattle.model.specs.declared.call.Call.{Call}
@@ -92,7 +92,7 @@ module _ (l : Lent) (v : Valid l) (a : Account) where
     untouched codes unchanged still = stepped codes (λ q. subst (After c _ _) (sym (still .1)) (rw (still .0) (unchanged (perform (begun l) c bytes .answer))))
 
   pub call-balanced : (c : Call) (bytes : List ℕ) → Left c (step l c bytes)
-  unfolding seen perform creTsk delTsk staTsk extTsk terTsk chgPri rejoin creMtx delMtx locMtx unlMtx creMbf delMbf sndMbf storeMessage rcvMbf takeOldest
+  unfolding seen perform creTsk delTsk staTsk extTsk terTsk chgPri creMtx delMtx locMtx unlMtx creMbf delMbf sndMbf storeMessage rcvMbf takeOldest
       creMpf delMpf tickTask tick arrive settled becomeDormant leave leaveKernel computeKernel computeWorld computeRefusal
   call-balanced (CreTsk priority) bytes = stepped (CreTsk priority) bytes (search) (λ q. (λ h. h, refl))
   call-balanced (DelTsk task) bytes = stepped (DelTsk task) bytes (search) (λ q. (λ h. h, refl))
@@ -101,7 +101,7 @@ module _ (l : Lent) (v : Valid l) (a : Account) where
   call-balanced (TerTsk task) bytes = untouched (TerTsk task) bytes (search) (λ r. (λ h. h, refl)) (refl, releases-seen _ _)
   call-balanced (ChgPri task priority) bytes =
       untouched (ChgPri task priority) bytes (search) (λ r. (λ h. h, refl))
-      (refl, either (λ i. seen (withKernel (begun l) (recompute i)) ≡ seen (begun l)) (byPriority _ _) refl refl)
+      (refl, ap (λ (i : Kernel). seen (withKernel (begun l) i)) (rejoin-only _ _))
   call-balanced (CreMtx attribute ceiling) bytes = stepped (CreMtx attribute ceiling) bytes (search) (λ q. (λ h. h, refl))
   call-balanced (DelMtx mutex) bytes = untouched (DelMtx mutex) bytes (search) (λ r. (λ h. h, refl)) (refl, ends-seen _ _ E-DLT)
   call-balanced (LocMtx mutex timeout) bytes =

@@ -54,7 +54,7 @@ module _ {w : World} (s : Steady 0 w) where
             refl (layout-none none-used (inv .ofBuffers .layout b (r .0) (r .1))) (λ c i d. refl)
             (λ u i j p o. absurd (nobody-awaits k (k .buffers .exists) sending b (free .1) (λ t x y q. inv .ofBuffers .sends t x y q .there) u i j p o))
             (λ u i j p o. absurd (nobody-awaits k (k .buffers .exists) receiving b (free .1) (λ t x y q. inv .ofBuffers .receives t x y q .there) u i j p o)));
-        priorities = priorities-beside k _ _ (s .priorities);
+        priorities = priorities-beside k _ _ _ (s .priorities);
       }
 
 -- ---- deletion
@@ -71,7 +71,7 @@ deletes-buffer {w} s buffer bytes fit e =
     let gone : Buffers → Buffers = λ x. withBufferRow x b row in
     let cleared : List ℕ → List ℕ = λ store. withRegion b store (zeros regionBytes) in
     let struck : World → World = strike (λ x. x) gone (λ x. x) cleared in
-    struck-out (λ x. x) gone (λ x. x) cleared E-DLT (receivers ++ senders) w (struck w) refl (priorities-beside (w .kernel) _ _ (s .priorities)) refl s
+    struck-out (λ x. x) gone (λ x. x) cleared E-DLT (receivers ++ senders) w (struck w) refl (priorities-beside (w .kernel) _ _ _ (s .priorities)) refl s
     (both-started s (queue receiving b) (queue sending b) (omega arith) (omega arith))
     (λ left.
     let x = left .steady .invariant in
@@ -130,7 +130,7 @@ module _ {w : World} (s : Steady 0 w) (b : ℕ) (low : 1 ≤ b) (high : b ≤ bu
         invariant =
             region-exchanged (s .invariant) b low high _ _ there (omega (arith, known .room)) (length-removed _ ∙ region-long (s .invariant) b low high) (r .layout)
             (λ u i j p o. n (ap (λ (c : ℕ). now .buffers .used ! c) (sym o) ∙ s .invariant .ofBuffers .receives u i j p .empty));
-        priorities = priorities-beside now _ _ (s .priorities);
+        priorities = priorities-beside now _ _ _ (s .priorities);
       }
 
   received : Timed (receiveWaits now b) timeout → Dec (now .buffers .used ! b ≡ 0) → Dec (queueFront now (queue sending b) ≡ 0) → Steady 0 (rcvMbf w b timeout .world)

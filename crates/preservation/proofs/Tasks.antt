@@ -1,12 +1,12 @@
 -- The calls on tasks keep what holds between acts.
 use mathlib.Core.Logic.{⊎-elim}
-use Rattle.model.proofs.Terms.{ℕ, zero, suc, _≤_, _<_, ℕ-discrete, arith, _≡_, _∙_, refl, sym, ap, _≢_, inl, inr, true, false, cond, false≢true, none, List, _∷_, length, set, set-getD, getD-set-other, ℤ, eqb, eq-eqb, ne-eqb, eqb-true, eqb-false, lt-leb, not-false, tasks, priorities, mutexes, _!_, upTo, number, E-OK, queue, readyQueue, absent, dormant, ready, locking, sending, byPriority, Kernel, Tasks, numbered, withArrivals, withPlace, withInitial, withBase, withCurrent, arrived, facts, effective, effectives, World, Nothing, withKernel, withEnded, running, recompute, arrive, settled, leaveKernel, leave, endWait, unused, firstRefusal, nobodyRuns, badField, badNumber, noSuch, noneFree, chosenTask, chosenBase, aboveCeiling, creTskRefusals, dormantRefusals, terTskRefusals, chgPriRefusals, refusals, creTsk, delTsk, staTsk, extTsk, terTsk, rejoin, chgPri, perform, Each, From, TaskLists, Priorities}
+use Rattle.model.proofs.Terms.{ℕ, zero, suc, _≤_, _<_, ℕ-discrete, arith, _≡_, _∙_, refl, sym, ap, _≢_, inl, inr, false, cond, false≢true, none, List, _∷_, length, set, set-getD, getD-set-other, ℤ, eqb, eq-eqb, ne-eqb, eqb-true, eqb-false, lt-leb, not-false, tasks, priorities, mutexes, _!_, upTo, number, E-OK, readyQueue, absent, dormant, ready, locking, sending, Kernel, Tasks, numbered, withPlace, withInitial, withBase, withCurrent, facts, effective, effectives, World, Nothing, withKernel, withEnded, running, recompute, arrive, settled, leaveKernel, leave, endWait, unused, firstRefusal, nobodyRuns, badField, badNumber, noSuch, noneFree, chosenTask, chosenBase, aboveCeiling, creTskRefusals, dormantRefusals, terTskRefusals, chgPriRefusals, refusals, creTsk, delTsk, staTsk, extTsk, terTsk, arrivesAnew, rejoin, chgPri, perform, Each, From, TaskLists, Priorities}
 use Rattle.model.specs.declared.call.Call.the-variants.{CreTsk, DelTsk, StaTsk, ExtTsk, TerTsk, ChgPri}
-use Rattle.model.proofs.ByCase.{leaves-other, recompute-not}
-use Rattle.model.proofs.ListLaws.{or-left, some-passes, bool-ext, member-countFrom}
+use Rattle.model.proofs.ByCase.{anew-started, leaves-other, recompute-not}
+use Rattle.model.proofs.ListLaws.{by-test, or-left, some-passes, bool-ext, member-countFrom}
 use Rattle.model.proofs.NumberLaws.{numbered-at, numbered-long, numbered-other, numbered-same}
 use Rattle.model.proofs.RefusalLaws.{none-applies, in-range, in-range-from-zero, unused-free}
-use Rattle.queue.proofs.Listing.{Listing, same-listing, arrived-listing}
+use Rattle.queue.proofs.Listing.{same-listing}
 use Rattle.queue.proofs.Members.{running-stood}
 use Rattle.priority.specs.Afresh.{byTask}
 use Rattle.priority.specs.Unchanged.{held}
@@ -15,8 +15,8 @@ use Rattle.priority.proofs.UnchangedLaws.{same-wait, effectives-except, effecti
 use Rattle.invariant.specs.Rows.{openTasks, openWorld}
 use Rattle.invariant.specs.Invariant.{Invariant, Steady}
 use Rattle.invariant.proofs.Exchange.{inside, numbers, set-by-number, set-here}
-use Rattle.invariant.proofs.Moves.{Unstarted, based, holds-nothing, retasked}
-use Rattle.invariant.proofs.Waits.{steady-settled, ended}
+use Rattle.invariant.proofs.Moves.{Unstarted, based, arrived-anew, holds-nothing, retasked}
+use Rattle.invariant.proofs.Waits.{priorities-beside, steady-settled, ended}
 use Rattle.invariant.proofs.Dormant.{falls-dormant}
 use Rattle.preservation.proofs.Keeps.{Keeps}
 use Rattle.preservation.proofs.Validity.{under-ceiling}
@@ -54,6 +54,16 @@ changed-is-there k task priority bytes e =
     let passed = none-applies (refusals k (ChgPri task priority) bytes) e in
     let runs = running-stood k (eqb-false _ 0 (passed 0)) in
     (unless-zero (number task) (running k) tasks (in-range-from-zero tasks task (passed 2)) (runs .low, runs .high), eqb-false _ absent (passed 3))
+
+-- a task that is there joins its queue anew, or keeps its arrival
+rejoins : {w : World} → Steady 0 w → (t : ℕ) → 1 ≤ t → t ≤ tasks → w .kernel .tasks .place ! t ≢ absent → Steady 0 (withKernel w (rejoin (w .kernel) t))
+unfolding withKernel rejoin openTasks
+rejoins {w} s t low high there =
+    by-test (λ (j : Kernel). Steady 0 (withKernel w j)) (arrivesAnew (w .kernel) t)
+    (λ e.
+    let started = anew-started (w .kernel) t e in
+    record { invariant = arrived-anew (s .invariant) t low high (omega arith); priorities = priorities-beside (w .kernel) _ _ _ (s .priorities) })
+    (λ e. s)
 
 module _ {w : World} (s : Steady 0 w) where
   abbrev k : Kernel
@@ -160,34 +170,24 @@ module _ {w : World} (s : Steady 0 w) where
   unfolding perform terTsk
   terminates-task task bytes fit e = let n = terminated-is-started k task bytes e in falls-dormant s (number task) (n .0) (n .1) (n .2)
 
-  -- ---- a base priority changes: a task in a queue by priority counts as arriving anew
+  -- ---- a base priority changes: it is set and priorities are settled, and then the task may join its queue anew
 
   module _ (t : ℕ) (low : 1 ≤ t) (high : t ≤ tasks) (there : x .place ! t ≢ absent) (base : ℕ) (range : From 1 priorities base)
       (fits : Each mutexes (λ m. aboveCeiling k base t m ≡ false)) where
-    rebased : {ts : List ℕ} → Listing (x .place) ts → Invariant 0 (withArrivals (withBase k t base) ts) (w .store) (w .outbox)
+    rebased : Steady 0 (withKernel w (recompute (withBase k t base)))
+    unfolding settled withKernel
     rebased =
-        based inv t low high base (omega arith) range (λ m i j q n. under-ceiling k base t m low high (fits m i j) (inl q))
+        steady-settled w
+        (based inv t low high base (omega arith) range (λ m i j q n. under-ceiling k base t m low high (fits m i j) (inl q))
         (λ q.
         let e = inv .ofMutexes .waits t low high q .there in
         let n = numbers (inv .ofMutexes .lists .exists) (λ (z : k .mutexes .exists ! (x .object ! t) ≡ 0). omega arith) in
-        under-ceiling k base t (x .object ! t) low high (fits _ (n .0) (n .1)) (inr (q, refl)))
+        under-ceiling k base t (x .object ! t) low high (fits _ (n .0) (n .1)) (inr (q, refl))))
 
-    rejoins : Steady 0 (withKernel w (recompute (rejoin (withBase k t base) t)))
-    unfolding settled withKernel rejoin byPriority openTasks
-    rejoins =
-        let joins = byPriority (facts (withBase k t base)) (queue (x .place ! t) (x .object ! t)) in
-        let anew = withArrivals (withBase k t base) (arrived t (k .arrivals)) in
-        steady-settled w
-        (elim joins as (λ b. joins ≡ b → Invariant 0 (cond b anew (withBase k t base)) (w .store) (w .outbox)) [
-          | true ↦ λ e.
-              let started : x .place ! t ≢ dormant = λ d. false≢true (rw d at e) in
-              rebased (rw (set-getD (x .place) t 0) at (arrived-listing (inv .ofTasks .listing) t (x .place ! t) low high (omega arith)))
-          | false ↦ λ e. rebased (inv .ofTasks .listing)
-        ] refl)
-
-  pub changes-priority : (task priority : ℤ) → Keeps w (ChgPri task priority)
-  unfolding refusals chgPriRefusals badField chosenBase perform chgPri
-  changes-priority task priority bytes fit e =
+  pub base-set : (task priority : ℤ) (bytes : List ℕ) → firstRefusal (refusals k (ChgPri task priority) bytes) ≡ none
+      → let t = chosenTask k task in Steady 0 (withKernel w (recompute (withBase k t (chosenBase k t priority))))
+  unfolding refusals chgPriRefusals badField chosenBase
+  base-set task priority bytes e =
       let passed = none-applies (refusals k (ChgPri task priority) bytes) e in
       let t = chosenTask k task in
       let chosen = changed-is-there k task priority bytes e in
@@ -195,8 +195,14 @@ module _ {w : World} (s : Steady 0 w) where
       let there = chosen .1 in
       let first : From 1 priorities (x .initial ! t) = ⊎-elim (λ g. absurd (there (g .0))) (λ g. g .1) (inv .ofTasks .each t (n .0) (n .1) .range) in
       let base = chosenBase k t priority in
-      rejoins t (n .0) (n .1) there base
+      rebased t (n .0) (n .1) there base
       (unless-zero (number priority) (x .initial ! t) priorities (in-range-from-zero priorities priority (passed 1)) first)
       (λ m i j.
       let has = member-countFrom 1 mutexes m i (omega arith) in
       bool-ext _ false (λ q. sym (passed 4) ∙ some-passes (aboveCeiling k base t) m (upTo mutexes) q has) (λ q. absurd (false≢true q)))
+
+  pub changes-priority : (task priority : ℤ) → Keeps w (ChgPri task priority)
+  unfolding perform chgPri withKernel recompute openTasks
+  changes-priority task priority bytes fit e =
+      let chosen = changed-is-there k task priority bytes e in
+      rejoins (base-set task priority bytes e) (chosenTask k task) (chosen .0 .0) (chosen .0 .1) (chosen .1)

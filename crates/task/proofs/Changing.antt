@@ -122,12 +122,16 @@ module _ (k : Kernel) (task priority : ℤ) where
 
 -- ---- what it does
 
+pub base-changed : (t base : ℕ) (s : List ℕ) {s1 s2 s' : List ℕ} → Represents s1 (withBase (kernel s) t base) → Represents s2 (recompute (kernel s1))
+    → Represents s' (rejoin (kernel s2) t) → Represents s' (rejoin (recompute (withBase (kernel s) t base)) t)
+base-changed t base s a b c = record { length = c .length; kernel = c .kernel ∙ rw (b .kernel, a .kernel) }
+
 pub changes : (caller : ℕ) (task priority : ℤ) {s s' log l1 : List ℕ} {at next : ℕ} → length s ≡ wordCount → {found : MaybeTask} {t : TaskNumber} {base : ℕ}
     → found ≡ maybeTask (wordNumber (chosenTask (kernel s) task) tasks) → found ≡ Task t → base ≡ chosenBase (kernel s) (t .0) priority
-    → Represents s' (recompute (rejoin (withBase (kernel s) (t .0) base) (t .0))) → Appends log at (answerBytes (Code E-OK)) l1 next
+    → Represents s' (rejoin (recompute (withBase (kernel s) (t .0) base)) (t .0)) → Appends log at (answerBytes (Code E-OK)) l1 next
     → CarriesInWords caller (λ w. chgPri w (chosenTask (w .kernel) task) priority) s log at s' l1 (record { answer = Code E-OK; next = next })
 unfolding chgPri
 changes caller task priority h {t = t} {base} made some base-is r g =
     in-words-as caller (λ store o. rw (sym (named taskKind made some .0), base-is))
     (carried-in-words caller (Code E-OK) Nothing _ h (answer-alone caller (Code E-OK) g)
-    (changes-kernel (λ k. recompute (rejoin (withBase k (t .0) base) (t .0))) r))
+    (changes-kernel (λ k. rejoin (recompute (withBase k (t .0) base)) (t .0)) r))

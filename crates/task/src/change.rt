@@ -84,14 +84,14 @@ pub fn refuse_chg_pri(state: &[u32], caller: TaskNumber, task: i32, priority: i3
     Verdict::Allowed
 }
 
-// The task's base is changed, it joins its queue anew, and priorities are settled.
+// The task's base is changed and priorities are settled; then it may join its queue anew.
 fn change_base(state: &mut [u32], t: TaskNumber, base: u32)
     requires { ⌜ length (now state) ≡ wordCount ⌝ }
-    ensures { λ _. ⌜ Represents (now (state .exit)) (recomputed (rejoined (withBase (kernel (now (state .entry))) (t .0) base) (t .0))) ⌝ }
+    ensures { λ _. ⌜ Represents (now (state .exit)) (rejoined (recomputed (withBase (kernel (now (state .entry))) (t .0) base)) (t .0)) ⌝ }
 {
     set_base(state, t, base);
-    rejoin(state, t);
     recompute(state);
+    rejoin(state, t);
 }
 
 // A task is chosen, since nothing refuses the call.

@@ -77,15 +77,20 @@ impl TestKernel {
         self.ok(chg_pri(task, base));
     }
 
-    /// Lets the equally urgent tasks before it step behind.
+    /// Lets the equally urgent tasks before it step behind. A raised one gets as urgent a base for
+    /// that; with its own base again it keeps the new place.
     #[track_caller]
     pub fn rotate_to(&mut self, task: i32) {
         for _ in 0..TASKS {
-            if self.running() == task {
+            let running = self.running();
+            if running == task {
                 return;
             }
-            let base = i32::from(self.task(self.running()).base);
-            self.ok(chg_pri(0, base));
+            let (base, current) = (self.task(running).base, self.current(running));
+            self.ok(chg_pri(0, i32::from(current)));
+            if current < base {
+                self.ok(chg_pri(running, i32::from(base)));
+            }
         }
         panic!("task {task} does not run");
     }
