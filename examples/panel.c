@@ -112,6 +112,42 @@ static panel lesson_begins(shinepod *k) {
     return p;
 }
 
+/* What every board function is lent. */
+#define LENT(k) (k)->state, SHINEPOD_STATE_WORDS, (k)->store, SHINEPOD_STORE_BYTES, (k)->outbox, SHINEPOD_OUTBOX_BYTES
+
+/*
+ * The tasks of the status board. No task's state is 0, so a row that is left as it came is of no task. A table with a row less is left so
+ * whole.
+ */
+static void task_rows(const shinepod *k) {
+    shinepod_task_row rows[SHINEPOD_TASKS] = {{0}};
+    printf("the board with a row less: %d", (int)shinepod_ref_tsk(LENT(k), rows, SHINEPOD_TASKS - 1));
+    printf(", first row's state %u\n", rows[0].state);
+    printf("the board: %d\n", (int)shinepod_ref_tsk(LENT(k), rows, SHINEPOD_TASKS));
+    for (size_t i = 0; i < SHINEPOD_TASKS; i++) {
+        const shinepod_task_row *row = &rows[i];
+        if (row->state == 0) continue;
+        printf("  task %zu: state %u, base %u, current %u", i + 1, row->state, row->base, row->current);
+        if (row->state == TTS_WAI) printf(", waits for %02x %u, %d ms left", row->kind, row->object, row->left);
+        printf("\n");
+    }
+}
+
+/* The whole board; of mutexes, buffers and pools the first, which are there. */
+static void board(const shinepod *k) {
+    shinepod_mutex_row mutexes[SHINEPOD_MUTEXES];
+    shinepod_buffer_row buffers[SHINEPOD_BUFFERS];
+    shinepod_pool_row pools[SHINEPOD_POOLS];
+    task_rows(k);
+    if (shinepod_ref_mtx(LENT(k), mutexes, SHINEPOD_MUTEXES) == E_OK)
+        printf("  mutex 1: holder %u, waiter %u\n", mutexes[0].holder, mutexes[0].waiter);
+    if (shinepod_ref_mbf(LENT(k), buffers, SHINEPOD_BUFFERS) == E_OK)
+        printf("  buffer 1: free %u, next %u, receiver %u, sender %u\n", buffers[0].free, buffers[0].next, buffers[0].receiver,
+               buffers[0].sender);
+    if (shinepod_ref_mpf(LENT(k), pools, SHINEPOD_POOLS) == E_OK)
+        printf("  pool 1: free %u, waiter %u\n", pools[0].free, pools[0].waiter);
+}
+
 /* A recorder holds the tape, the line waits for it, and the recorder runs with the line's priority until it gives it up. */
 static void tape(shinepod *k, const panel *p) {
     printf("\nThe tape\n");
@@ -120,6 +156,7 @@ static void tape(shinepod *k, const panel *p) {
     SHOW(k, shinepod_loc_mtx(k, p->tape, TMO_FEVR));
     SHOW(k, shinepod_sta_tsk(k, p->line));
     SHOW(k, shinepod_loc_mtx(k, p->tape, 20));
+    board(k);
     SHOW(k, shinepod_snd_mbf(k, p->calls, "tape ends", 10, TMO_POL));
     SHOW(k, shinepod_unl_mtx(k, p->tape));
     SHOW(k, shinepod_unl_mtx(k, p->tape));

@@ -15,8 +15,8 @@
  * says, and touches nothing else. Nothing is asked but what C itself cannot say, which is the caller's to keep:
  *
  *   - Every pointer is valid for as many elements as are handed over with it, aligned, and not null, also where the length is 0.
- *   - The areas, the message, the script and the results of one call do not overlap.
- *   - No other thread touches an area while a call runs: two threads may not use one kernel at a time. Two kernels are independent.
+ *   - The areas, the message, the script, the rows and the results of one call do not overlap.
+ *   - No other thread touches an area or the rows while a call runs: two threads may not use one kernel at a time. Two kernels are independent.
  */
 #ifndef SHINEPOD_H
 #define SHINEPOD_H
@@ -26,8 +26,8 @@
 #include <stdint.h>
 
 /*
- * Every number: sizes SHINEPOD_.., codes E_.., kinds TK_.., items of a log SHINEPOD_LOG_.., and the outcomes and places below. Made from
- * the crates' sources.
+ * Every number: sizes SHINEPOD_.., codes E_.., kinds TK_.., items of a log SHINEPOD_LOG_.., states of a task TTS_.., and the outcomes
+ * and places below. Made from the crates' sources.
  */
 #include "shinepod_numbers.h"
 
@@ -113,6 +113,62 @@ uint32_t shinepod_next_message(const uint32_t *state, size_t state_words, const 
  */
 bool shinepod_is_valid(const uint32_t *state, size_t state_words, const uint8_t *store, size_t store_bytes, const uint8_t *outbox,
                        size_t outbox_bytes);
+
+/*
+ * The status board: what the manual's tk_ref calls tell, of all objects of a kind at once. The four functions are in an archive of their
+ * own, libboard.a. Each writes into rows that the caller lends, of which row n, counted from 1, is that of the object with number n. Gives
+ *
+ *     E_OK    the rows of all objects that exist are written
+ *     E_SYS   an area has another length, or the areas are not valid (shinepod_is_valid); no row is written
+ *     E_PAR   else, if there are fewer rows than numbers of the kind (SHINEPOD_TASKS and so on); no row is written
+ *
+ * A row that is not written stays as it came: that of a number that no object has, and those behind the last number. State, store and
+ * outbox are only read. A task in a row is its number, 0 for none; the first that waits is the one that would be served first.
+ */
+
+/*
+ * A task: its state (TTS_RUN, TTS_RDY, TTS_WAI or TTS_DMT), base and current priority; the object that it waits for, by the kind of the
+ * call that creates such a one (TK_CRE_MTX, TK_CRE_MBF, TK_CRE_MPF) and its number, 0 and 0 for none; the milliseconds left of the wait,
+ * -1 without end, 0 for no wait.
+ */
+typedef struct {
+    uint32_t state, base, current, kind, object;
+    int32_t left;
+} shinepod_task_row;
+
+/* A mutex: the task that holds it, and the first that waits for it. */
+typedef struct {
+    uint32_t holder, waiter;
+} shinepod_mutex_row;
+
+/*
+ * A buffer: how many bytes of its bufsz no stored message takes; the length of the next message (shinepod_next_message), 0 if there is
+ * none; the first that waits to receive, and the first that waits to send.
+ */
+typedef struct {
+    uint32_t free, next, receiver, sender;
+} shinepod_buffer_row;
+
+/* A pool: how many blocks are free, and the first that waits for one. */
+typedef struct {
+    uint32_t free, waiter;
+} shinepod_pool_row;
+
+/* The status of the tasks: E_OK and a row for each that exists, or E_SYS or E_PAR and no row. */
+ER shinepod_ref_tsk(const uint32_t *state, size_t state_words, const uint8_t *store, size_t store_bytes, const uint8_t *outbox,
+                    size_t outbox_bytes, shinepod_task_row *rows, size_t row_count);
+
+/* The same of the mutexes. */
+ER shinepod_ref_mtx(const uint32_t *state, size_t state_words, const uint8_t *store, size_t store_bytes, const uint8_t *outbox,
+                    size_t outbox_bytes, shinepod_mutex_row *rows, size_t row_count);
+
+/* The same of the buffers. */
+ER shinepod_ref_mbf(const uint32_t *state, size_t state_words, const uint8_t *store, size_t store_bytes, const uint8_t *outbox,
+                    size_t outbox_bytes, shinepod_buffer_row *rows, size_t row_count);
+
+/* The same of the pools. */
+ER shinepod_ref_mpf(const uint32_t *state, size_t state_words, const uint8_t *store, size_t store_bytes, const uint8_t *outbox,
+                    size_t outbox_bytes, shinepod_pool_row *rows, size_t row_count);
 
 /*
  * The log. It is a row of items: a byte that says which one it is, and what follows it. A task is one byte; a code, a block and an offset

@@ -1,4 +1,4 @@
-//! Links the static library and makes constants of the numbers in its headers. `tools/build_library` makes all three.
+//! Links the static libraries and makes constants of the numbers in their headers. `tools/build_library` makes all of them.
 
 use std::path::Path;
 use std::{env, fs};
@@ -9,7 +9,10 @@ const HEADERS: [&str; 2] = ["shinepod_numbers.h", "shinepod.h"];
 /// The names of the header begin with it; the constants' names have the crate's name before them anyway.
 const PREFIX: &str = "SHINEPOD_";
 
-/// What a function of the library gives: C has these without a sign.
+/// The archives, by their names for the linker: the calls, and the status board.
+const LIBRARIES: [&str; 2] = ["shinepod_c", "board"];
+
+/// What a function of the library gives, as `TTS_..` are: C has these without a sign.
 const GIVEN: [&str; 8] =
     ["ANSWERED", "WAITS", "EXITED", "UNKNOWN_KIND", "OVER", "NOWHERE", "IN_STORE", "IN_OUTBOX"];
 
@@ -26,7 +29,7 @@ fn type_of(name: &str) -> &'static str {
         "usize"
     } else if begins(&["TK_", "LOG_"]) {
         "u8"
-    } else if GIVEN.contains(&name) {
+    } else if begins(&["TTS_"]) || GIVEN.contains(&name) {
         "u32"
     } else if begins(&["E_", "TA_", "TMO_"]) || FIELDS.contains(&name) {
         "i32"
@@ -61,6 +64,8 @@ fn main() {
         .unwrap_or_else(|error| panic!("numbers.rs: {error}"));
     let libraries = made.join("staticlib");
     println!("cargo:rustc-link-search=native={}", libraries.display());
-    println!("cargo:rustc-link-lib=static=shinepod_c");
-    println!("cargo:rerun-if-changed={}", libraries.join("libshinepod_c.a").display());
+    for library in LIBRARIES {
+        println!("cargo:rustc-link-lib=static={library}");
+        println!("cargo:rerun-if-changed={}", libraries.join(format!("lib{library}.a")).display());
+    }
 }

@@ -9,6 +9,7 @@ use reference::{next_message, run_record, states, Answer, Kernel};
 use shinepod::numbers::{ANSWERED, IN_OUTBOX, IN_STORE, NOWHERE, OVER, UNKNOWN_KIND};
 use shinepod::raw::Shown;
 
+use crate::board;
 use crate::difference::{hex, same, same_all, Compared, Expected};
 use crate::fields::{any_bytes, any_record, mostly_clean, split, unknown_kind};
 use crate::library::{Came, Lent};
@@ -33,6 +34,8 @@ pub struct Counts {
     pub waits: u64,
     pub lengths: u64,
     pub shown: u64,
+    /// Those of scripts, too.
+    pub boards: board::Counts,
 }
 
 /// Lent state number `index` of a seed.
@@ -136,7 +139,7 @@ struct Case<'a> {
 }
 
 impl Case<'_> {
-    /// The check, and the next message of every buffer and of none. Gives whether the state is valid.
+    /// The check, the next message of every buffer and of none, and the status board. Gives whether the state is valid.
     fn check(&mut self) -> Result<bool, String> {
         let valid = self.state.is_valid();
         same("the check", self.lent.is_valid(), valid).map_err(|what| self.report("", what))?;
@@ -147,7 +150,9 @@ impl Case<'_> {
             same("the next message", self.lent.next_message(buffer), expected)
                 .map_err(|what| self.report(&format!("buffer {buffer}"), what))?;
         }
-        self.unchanged().map_err(|what| self.report("the check and the next message", what))?;
+        board::compare(&self.lent, self.state, self.random, &mut self.counts.boards)
+            .map_err(|what| self.report("", what))?;
+        self.unchanged().map_err(|what| self.report("what only looks", what))?;
         Ok(valid)
     }
 

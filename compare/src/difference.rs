@@ -48,7 +48,7 @@ fn word_name(i: usize) -> String {
     format!("word {i}, {name} {}", i - start)
 }
 
-fn same_list<T: PartialEq + Debug>(
+pub fn same_list<T: PartialEq + Debug>(
     library: &[T],
     reference: &[T],
     name: impl Fn(usize) -> String,

@@ -1,7 +1,8 @@
-//! `compare [--seed N] [--records N] [--states N] [--seconds N] [--tally]`: the static library held
+//! `compare [--seed N] [--records N] [--states N] [--seconds N] [--tally]`: the static libraries held
 //! against the reference, until as many records and lent states are done, or for so many seconds.
 //! With `--tally` it says at the end what happened in the scripts, as the generator counts it.
 
+mod board;
 mod calls;
 mod difference;
 mod fields;
@@ -64,9 +65,10 @@ fn options() -> Result<Options, String> {
 
 fn line(done: &Done, start: Instant) -> String {
     let counts = &done.counts;
+    let boards = &counts.boards;
     format!(
         "{} s: {} scripts, {} records; {} lent states, {} valid; {} calls on them, {} went well, {} wait; \
-         {} times other lengths; {} messages shown",
+         {} times other lengths; {} messages shown; {} boards, {} written with {} rows, {} refused with -5, {} with -17",
         start.elapsed().as_secs(),
         done.scripts,
         done.records,
@@ -76,7 +78,12 @@ fn line(done: &Done, start: Instant) -> String {
         counts.well,
         counts.waits,
         counts.lengths,
-        counts.shown
+        counts.shown,
+        boards.boards,
+        boards.written,
+        boards.rows,
+        boards.not_valid,
+        boards.too_few
     )
 }
 
@@ -97,7 +104,8 @@ fn run(options: &Options) -> Result<(), String> {
         (of(options.records, options.states), of(options.states, options.records));
     while (done.records < records || done.counts.states < states) && time_left() {
         if done.records < records {
-            done.records += scripts::compare(options.seed, done.scripts, &mut done.tally)?;
+            let boards = &mut done.counts.boards;
+            done.records += scripts::compare(options.seed, done.scripts, &mut done.tally, boards)?;
             done.scripts += 1;
         }
         if done.counts.states < states {

@@ -9,6 +9,7 @@ use reference::tally::Tally;
 use reference::{run_script, Kernel, Outcome};
 use shinepod::numbers::{ANSWERED, OVER};
 
+use crate::board;
 use crate::difference::{hex, same, same_all, Compared, Expected};
 use crate::fields::split;
 use crate::library::{Came, Lent};
@@ -19,8 +20,16 @@ const STOPPED: u8 = 0x8E;
 /// A long script now and then.
 const LONG: usize = 10 * RECORDS;
 
+/// The status board is looked at after one of so many records: it takes longer than a record.
+const BOARDS: usize = 32;
+
 /// Script number `index` of a seed. Gives how many records ran; the tally counts what happened.
-pub fn compare(seed: u64, index: u64, tally: &mut Tally) -> Result<u64, String> {
+pub fn compare(
+    seed: u64,
+    index: u64,
+    tally: &mut Tally,
+    boards: &mut board::Counts,
+) -> Result<u64, String> {
     let records = match index % 16 {
         0 => LONG,
         _ => RECORDS,
@@ -29,11 +38,15 @@ pub fn compare(seed: u64, index: u64, tally: &mut Tally) -> Result<u64, String> 
     let mut random = Random::new(seed ^ index);
     let mut log = [0; LOG];
     log.iter_mut().for_each(|byte| *byte = random.word() as u8);
-    match run(&script, &log, &mut random) {
+    let some = |lent: &Lent, state: &State, random: &mut Random| match random.below(BOARDS) {
+        0 => board::compare(lent, state, random, boards),
+        _ => Ok(()),
+    };
+    match run(&script, &log, &mut random, some) {
         Ok(records) => Ok(records),
         Err(what) => {
             let short = shortened(&script, &log);
-            let what = run(&short, &log, &mut Random::new(0)).err().unwrap_or(what);
+            let what = run(&short, &log, &mut Random::new(0), every_board).err().unwrap_or(what);
             Err(format!(
                 "script {index} of seed {seed}: {what}\nthe script, shortened: {}",
                 hex(&short)
@@ -42,9 +55,16 @@ pub fn compare(seed: u64, index: u64, tally: &mut Tally) -> Result<u64, String> 
     }
 }
 
+/// The boards of a state with the same few tables whatever came before, so that a difference there stays when records are taken away.
+fn every_board(lent: &Lent, state: &State, _: &mut Random) -> Compared {
+    let (mut random, mut counts) = (Random::new(0), board::Counts::default());
+    (0..6).try_for_each(|_| board::compare(lent, state, &mut random, &mut counts))
+}
+
 /// The same difference, or another one, with as few records as taking away single ones leads to.
 fn shortened(script: &[u8], log: &[u8]) -> Vec<u8> {
-    let differs = |records: &[&[u8]]| run(&records.concat(), log, &mut Random::new(0)).is_err();
+    let differs =
+        |records: &[&[u8]]| run(&records.concat(), log, &mut Random::new(0), every_board).is_err();
     let (mut records, mut at) = (Vec::new(), 0);
     while let Some((_, length)) = record::read(&script[at..]) {
         records.push(&script[at..at + length]);
@@ -64,8 +84,13 @@ fn shortened(script: &[u8], log: &[u8]) -> Vec<u8> {
     records.concat()
 }
 
-/// A script from the fresh state on, in both ways.
-fn run(script: &[u8], log: &[u8], random: &mut Random) -> Result<u64, String> {
+/// A script from the fresh state on, in both ways, and the boards that are looked at on the way.
+fn run(
+    script: &[u8],
+    log: &[u8],
+    random: &mut Random,
+    mut boards: impl FnMut(&Lent, &State, &mut Random) -> Compared,
+) -> Result<u64, String> {
     let mut kernel = Kernel::fresh();
     let mut lents = fresh(log, random)?;
     let (mut expected_log, mut whole_log) = (log.to_vec(), Vec::new());
@@ -81,6 +106,7 @@ fn run(script: &[u8], log: &[u8], random: &mut Random) -> Result<u64, String> {
         let came = Came::of(out.answer, logged.len(), at + length);
         let expected = Expected { came, state: &state, log: &expected_log };
         both(&mut lents, script, at, expected)
+            .and_then(|()| boards(&lents.by_record, &state, random))
             .map_err(|what| format!("record {records}, at {at}, {call:?}: {what}"))?;
         at += length;
         records += 1;

@@ -1,20 +1,23 @@
 //! The kernel in ordinary Rust: the test oracle, never the product.
 //!
 //! [`run_script`] runs a script; [`run_record`] runs one call on a lent state; [`check`] tells
-//! whether a lent state and its areas are valid, [`clauses`] which clauses of that fail; [`Kernel`]
-//! is the state in plain structs. The modules [`generator`], [`states`], [`selfcheck`], [`ledger`]
-//! and [`tally`] serve the tests.
+//! whether a lent state and its areas are valid, [`clauses`] which clauses of that fail; [`board`]
+//! has the status of every object of a lent state, [`wall`] shows it as text after a script;
+//! [`Kernel`] is the state in plain structs. The modules [`generator`], [`states`], [`selfcheck`],
+//! [`ledger`] and [`tally`] serve the tests, [`filter`] the programs.
 
 #![forbid(unsafe_code)]
 
 mod alter;
 mod base_plan;
 mod base_tally;
+pub mod board;
 pub mod boundary;
 mod calls;
 pub mod clauses;
 mod convert;
 mod effects;
+pub mod filter;
 pub mod generator;
 pub mod kernel;
 pub mod ledger;
@@ -30,6 +33,7 @@ pub mod selfcheck;
 pub mod states;
 pub mod tally;
 mod valid;
+pub mod wall;
 pub mod words;
 
 pub use effects::next_message;

@@ -41,6 +41,12 @@ pub const MUTEX_FIFO: u8 = 0;
 pub const MUTEX_INHERIT: u8 = 2;
 pub const MUTEX_CEILING: u8 = 3;
 
+/// The standard's task states: running, ready, waiting, dormant.
+pub const TTS_RUN: u32 = 1;
+pub const TTS_RDY: u32 = 2;
+pub const TTS_WAI: u32 = 4;
+pub const TTS_DMT: u32 = 16;
+
 /// Success, and the standard's main error codes.
 pub const E_OK: i32 = 0;
 pub const E_SYS: i32 = -5;

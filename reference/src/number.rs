@@ -21,7 +21,7 @@ macro_rules! number {
 
             /// Every number of the kind, upwards.
             #[inline]
-            pub fn all() -> impl Iterator<Item = Self> {
+            pub fn all() -> impl ExactSizeIterator<Item = Self> {
                 (1..=$limit as u8).map(Self)
             }
 

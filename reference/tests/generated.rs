@@ -1,8 +1,10 @@
 //! Generated scripts, each record held against the validity check, the lent state and the ledger.
 
-use std::io::Write;
+mod common;
+
 use std::process::{Command, Stdio};
 
+use common::*;
 use reference::generator::{generate, RECORDS};
 use reference::limits::SCRIPT;
 use reference::run_script;
@@ -40,47 +42,28 @@ fn a_seed_gives_the_same_scripts() {
     assert_ne!(make(5, 1), make(6, 1));
 }
 
-fn run_binary(arguments: &[&str], input: &[u8]) -> Vec<u8> {
-    let mut child = Command::new(env!("CARGO_BIN_EXE_reference"))
-        .args(arguments)
-        .stdin(Stdio::piped())
-        .stdout(Stdio::piped())
-        .spawn()
-        .unwrap();
-    // From another thread: output may fill its pipe before all input is taken.
-    let mut stdin = child.stdin.take().unwrap();
-    let input = input.to_vec();
-    let writer = std::thread::spawn(move || drop(stdin.write_all(&input)));
-    let output = child.wait_with_output().unwrap();
-    writer.join().unwrap();
-    assert!(output.status.success());
-    output.stdout
-}
+const REFERENCE: &str = env!("CARGO_BIN_EXE_reference");
 
 #[test]
 fn the_binary_runs_scripts() {
     for index in 0..10 {
         let script = generate(3, index, 50, &mut Tally::default());
-        assert_eq!(run_binary(&[], &script), run_script(&script));
+        assert_eq!(run_binary(REFERENCE, &[], &script), run_script(&script));
     }
-    assert_eq!(run_binary(&[], &[]), []);
-    assert_eq!(run_binary(&[], &[0x40; SCRIPT + 1]), [0x8D]);
-    assert_eq!(run_binary(&[], &[0x40; 100_000]), [0x8D]);
+    assert_eq!(run_binary(REFERENCE, &[], &[]), []);
+    assert_eq!(run_binary(REFERENCE, &[], &[0x40; SCRIPT + 1]), [0x8D]);
+    assert_eq!(run_binary(REFERENCE, &[], &[0x40; 100_000]), [0x8D]);
 }
 
 #[test]
 fn the_binary_runs_frames() {
-    let frame = |file: &mut Vec<u8>, bytes: &[u8]| {
-        file.extend((bytes.len() as u32).to_le_bytes());
-        file.extend(bytes);
-    };
     let (mut scripts, mut logs) = (Vec::new(), Vec::new());
     for index in 0..200 {
         let script = generate(4, index, 50, &mut Tally::default());
-        frame(&mut scripts, &script);
-        frame(&mut logs, &run_script(&script));
+        write_frame(&mut scripts, &script);
+        write_frame(&mut logs, &run_script(&script));
     }
-    assert_eq!(run_binary(&["--framed"], &scripts), logs);
+    assert_eq!(run_binary(REFERENCE, &["--framed"], &scripts), logs);
 }
 
 #[test]
@@ -103,10 +86,8 @@ fn the_generator_writes_files() {
     for index in 0..20 {
         let (script, log) = (read(&format!("{index}.script")), read(&format!("{index}.log")));
         assert_eq!(run_script(&script), log);
-        scripts.extend((script.len() as u32).to_le_bytes());
-        scripts.extend(script);
-        logs.extend((log.len() as u32).to_le_bytes());
-        logs.extend(log);
+        write_frame(&mut scripts, &script);
+        write_frame(&mut logs, &log);
     }
     assert_eq!((read("scripts"), read("logs")), (scripts, logs));
     std::fs::remove_dir_all(&dir).unwrap();

@@ -1,5 +1,6 @@
 //! A kernel that owns its areas, with the manual's calls by their names.
 
+use crate::board::{BufferRow, MutexRow, PoolRow, TaskRow};
 use crate::log::{items, Items};
 use crate::numbers::*;
 use crate::Outcome;
@@ -75,6 +76,25 @@ impl Kernel {
         let (outcome, told) = crate::run_record(state, store, outbox, log, script, at);
         *written = told.len();
         outcome
+    }
+}
+
+/// The status board, in rows that the caller lends, as [`ref_tsk`](crate::ref_tsk()) and the other three.
+impl Kernel {
+    pub fn ref_tsk(&self, rows: &mut [TaskRow]) -> Result<(), i32> {
+        crate::ref_tsk(&self.state, &self.store, &self.outbox, rows)
+    }
+
+    pub fn ref_mtx(&self, rows: &mut [MutexRow]) -> Result<(), i32> {
+        crate::ref_mtx(&self.state, &self.store, &self.outbox, rows)
+    }
+
+    pub fn ref_mbf(&self, rows: &mut [BufferRow]) -> Result<(), i32> {
+        crate::ref_mbf(&self.state, &self.store, &self.outbox, rows)
+    }
+
+    pub fn ref_mpf(&self, rows: &mut [PoolRow]) -> Result<(), i32> {
+        crate::ref_mpf(&self.state, &self.store, &self.outbox, rows)
     }
 }
 

@@ -1,6 +1,6 @@
 //! The kernel as a library for Rust. `tools/build_library` has to run first; docs/LIBRARY.md says more.
 //!
-//! [`Kernel`] owns its areas and has the manual's calls by their names. The five functions here are the same over areas that a caller
+//! [`Kernel`] owns its areas and has the manual's calls by their names. The nine functions here are the same over areas that a caller
 //! lends, of any length and content: the library checks both in each call. Nothing is allocated.
 //!
 //! ```
@@ -24,6 +24,7 @@
 #![no_std]
 #![deny(unsafe_code)]
 
+pub mod board;
 mod kernel;
 pub mod log;
 pub mod numbers;
@@ -34,15 +35,13 @@ pub mod raw;
 pub use kernel::Kernel;
 pub use outcome::Outcome;
 
+use board::{BufferRow, MutexRow, PoolRow, TaskRow};
 use numbers::{E_OK, IN_OUTBOX, IN_STORE, NOWHERE};
 
 /// The areas become the fresh kernel: task 1 runs, and nothing else is there. With another length nothing is changed, and the error is
 /// `E_SYS`. What the areas hold before does not matter.
 pub fn fresh(state: &mut [u32], store: &mut [u8], outbox: &mut [u8]) -> Result<(), i32> {
-    match raw::fresh(state, store, outbox) {
-        E_OK => Ok(()),
-        code => Err(code),
-    }
+    done(raw::fresh(state, store, outbox))
 }
 
 /// One call of the task that runs, by its kind (`TK_..`) and fields in the manual's order; fields that the call has not are not looked
@@ -100,4 +99,56 @@ pub fn next_message<'a>(
 /// keeps it so. That calls lead there from the fresh kernel is not asked.
 pub fn is_valid(state: &[u32], store: &[u8], outbox: &[u8]) -> bool {
     raw::is_valid(state, store, outbox)
+}
+
+/// The status board: what the manual's `tk_ref_tsk` tells, of all tasks at once. Row n, counted from 1, is that of the task with number
+/// n. The rows of the tasks that exist are written, and every other row stays as it came.
+///
+/// The error is `E_SYS` if an area has another length or the areas are not valid ([`is_valid`]), else `E_PAR` if there are fewer than
+/// `TASKS` rows. Then no row is written.
+pub fn ref_tsk(
+    state: &[u32],
+    store: &[u8],
+    outbox: &[u8],
+    rows: &mut [TaskRow],
+) -> Result<(), i32> {
+    done(raw::ref_tsk(state, store, outbox, rows))
+}
+
+/// As [`ref_tsk`], of all mutexes, into `MUTEXES` rows or more.
+pub fn ref_mtx(
+    state: &[u32],
+    store: &[u8],
+    outbox: &[u8],
+    rows: &mut [MutexRow],
+) -> Result<(), i32> {
+    done(raw::ref_mtx(state, store, outbox, rows))
+}
+
+/// As [`ref_tsk`], of all buffers, into `BUFFERS` rows or more.
+pub fn ref_mbf(
+    state: &[u32],
+    store: &[u8],
+    outbox: &[u8],
+    rows: &mut [BufferRow],
+) -> Result<(), i32> {
+    done(raw::ref_mbf(state, store, outbox, rows))
+}
+
+/// As [`ref_tsk`], of all pools, into `POOLS` rows or more.
+pub fn ref_mpf(
+    state: &[u32],
+    store: &[u8],
+    outbox: &[u8],
+    rows: &mut [PoolRow],
+) -> Result<(), i32> {
+    done(raw::ref_mpf(state, store, outbox, rows))
+}
+
+/// `E_OK` or an error.
+fn done(code: i32) -> Result<(), i32> {
+    match code {
+        E_OK => Ok(()),
+        code => Err(code),
+    }
 }

@@ -1,11 +1,15 @@
-//! The five functions as `shinepod.h` declares them, with slices for pointers and lengths: outcomes and places are the numbers that
+//! The nine functions as `shinepod.h` declares them, with slices for pointers and lengths: outcomes and places are the numbers that
 //! C has. Slices may have any length, since the library checks it.
 //!
 //! The library asks of its caller what C cannot say. Here it is said by types: a slice's pointer is valid for its length, aligned and
 //! not null, also where it is empty; what is lent by `&mut` overlaps nothing else, and no other thread touches it. The library keeps
 //! no pointer, and touches nothing but what is lent.
 
+use crate::board::{BufferRow, MutexRow, PoolRow, TaskRow};
+
 mod c {
+    use crate::board::{BufferRow, MutexRow, PoolRow, TaskRow};
+
     extern "C" {
         pub fn shinepod_fresh(
             state: *mut u32,
@@ -71,6 +75,50 @@ mod c {
             outbox: *const u8,
             outbox_bytes: usize,
         ) -> bool;
+
+        pub fn shinepod_ref_tsk(
+            state: *const u32,
+            state_words: usize,
+            store: *const u8,
+            store_bytes: usize,
+            outbox: *const u8,
+            outbox_bytes: usize,
+            rows: *mut TaskRow,
+            row_count: usize,
+        ) -> i32;
+
+        pub fn shinepod_ref_mtx(
+            state: *const u32,
+            state_words: usize,
+            store: *const u8,
+            store_bytes: usize,
+            outbox: *const u8,
+            outbox_bytes: usize,
+            rows: *mut MutexRow,
+            row_count: usize,
+        ) -> i32;
+
+        pub fn shinepod_ref_mbf(
+            state: *const u32,
+            state_words: usize,
+            store: *const u8,
+            store_bytes: usize,
+            outbox: *const u8,
+            outbox_bytes: usize,
+            rows: *mut BufferRow,
+            row_count: usize,
+        ) -> i32;
+
+        pub fn shinepod_ref_mpf(
+            state: *const u32,
+            state_words: usize,
+            store: *const u8,
+            store_bytes: usize,
+            outbox: *const u8,
+            outbox_bytes: usize,
+            rows: *mut PoolRow,
+            row_count: usize,
+        ) -> i32;
     }
 }
 
@@ -218,4 +266,67 @@ pub fn is_valid(state: &[u32], store: &[u8], outbox: &[u8]) -> bool {
             outbox.len(),
         )
     }
+}
+
+/// How the four functions of the status board are declared.
+type Board<Row> = unsafe extern "C" fn(
+    *const u32,
+    usize,
+    *const u8,
+    usize,
+    *const u8,
+    usize,
+    *mut Row,
+    usize,
+) -> i32;
+
+/// One of them, with slices.
+///
+/// # Safety
+///
+/// The function only reads state, store and outbox, writes nothing but rows, and keeps no pointer.
+unsafe fn board<Row>(
+    function: Board<Row>,
+    state: &[u32],
+    store: &[u8],
+    outbox: &[u8],
+    rows: &mut [Row],
+) -> i32 {
+    // SAFETY: each pointer is that of a slice, and goes with its length; the rows are lent by `&mut`, so that nothing overlaps them.
+    unsafe {
+        function(
+            state.as_ptr(),
+            state.len(),
+            store.as_ptr(),
+            store.len(),
+            outbox.as_ptr(),
+            outbox.len(),
+            rows.as_mut_ptr(),
+            rows.len(),
+        )
+    }
+}
+
+/// The status of all tasks: `E_OK` and the rows of those that exist, or `E_SYS` or `E_PAR` and no row.
+pub fn ref_tsk(state: &[u32], store: &[u8], outbox: &[u8], rows: &mut [TaskRow]) -> i32 {
+    // SAFETY: `shinepod.h` says so of this function.
+    unsafe { board(c::shinepod_ref_tsk, state, store, outbox, rows) }
+}
+
+/// The same of all mutexes.
+pub fn ref_mtx(state: &[u32], store: &[u8], outbox: &[u8], rows: &mut [MutexRow]) -> i32 {
+    // SAFETY: `shinepod.h` says so of this function.
+    unsafe { board(c::shinepod_ref_mtx, state, store, outbox, rows) }
+}
+
+/// The same of all buffers.
+pub fn ref_mbf(state: &[u32], store: &[u8], outbox: &[u8], rows: &mut [BufferRow]) -> i32 {
+    // SAFETY: `shinepod.h` says so of this function.
+    unsafe { board(c::shinepod_ref_mbf, state, store, outbox, rows) }
+}
+
+/// The same of all pools.
+pub fn ref_mpf(state: &[u32], store: &[u8], outbox: &[u8], rows: &mut [PoolRow]) -> i32 {
+    // SAFETY: `shinepod.h` says so of this function.
+    unsafe { board(c::shinepod_ref_mpf, state, store, outbox, rows) }
 }

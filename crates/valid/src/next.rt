@@ -14,7 +14,7 @@ ghost use Rattle.model.specs.Words.{wordCount, kernel};
 ghost use Rattle.valid.specs.Shown.{shownLocation, shownMessage};
 
 // "the oldest stored message, else the first sender's".
-fn located(state: &[u32], b: BufferNumber) -> Location
+pub fn located(state: &[u32], b: BufferNumber) -> Location
     requires { ⌜ length (now state) ≡ wordCount ⌝ }
     ensures { λ r. ⌜ r ≡ located (kernel (now (state .entry))) (b .0) ⌝ }
 {

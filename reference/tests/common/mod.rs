@@ -1,6 +1,9 @@
 //! A kernel under test: every call is also held against the validity check and the ledger.
 #![allow(dead_code)]
 
+use std::io::Write;
+use std::process::{Command, Stdio};
+
 use reference::ledger::Ledger;
 use reference::limits::*;
 use reference::number::TaskNo;
@@ -190,4 +193,27 @@ pub fn script(calls: &[Call]) -> Vec<u8> {
         call.write(&mut bytes);
     }
     bytes
+}
+
+/// What a program writes for an input.
+pub fn run_binary(program: &str, arguments: &[&str], input: &[u8]) -> Vec<u8> {
+    let mut child = Command::new(program)
+        .args(arguments)
+        .stdin(Stdio::piped())
+        .stdout(Stdio::piped())
+        .spawn()
+        .unwrap();
+    // From another thread: output may fill its pipe before all input is taken.
+    let mut stdin = child.stdin.take().unwrap();
+    let input = input.to_vec();
+    let writer = std::thread::spawn(move || drop(stdin.write_all(&input)));
+    let output = child.wait_with_output().unwrap();
+    writer.join().unwrap();
+    assert!(output.status.success());
+    output.stdout
+}
+
+pub fn write_frame(file: &mut Vec<u8>, bytes: &[u8]) {
+    file.extend((bytes.len() as u32).to_le_bytes());
+    file.extend(bytes);
 }

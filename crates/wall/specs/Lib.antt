@@ -1,0 +1,2 @@
+pub mod Walled
+pub mod Statements
