@@ -142,8 +142,8 @@ static void board(const shinepod *k) {
     if (shinepod_ref_mtx(LENT(k), mutexes, SHINEPOD_MUTEXES) == E_OK)
         printf("  mutex 1: holder %u, waiter %u\n", mutexes[0].holder, mutexes[0].waiter);
     if (shinepod_ref_mbf(LENT(k), buffers, SHINEPOD_BUFFERS) == E_OK)
-        printf("  buffer 1: free %u, next %u, receiver %u, sender %u\n", buffers[0].free, buffers[0].next, buffers[0].receiver,
-               buffers[0].sender);
+        printf("  buffer 1: free %u, room %d, next %u, receiver %u, sender %u\n", buffers[0].free, buffers[0].room, buffers[0].next,
+               buffers[0].receiver, buffers[0].sender);
     if (shinepod_ref_mpf(LENT(k), pools, SHINEPOD_POOLS) == E_OK)
         printf("  pool 1: free %u, waiter %u\n", pools[0].free, pools[0].waiter);
 }

@@ -142,11 +142,14 @@ typedef struct {
 } shinepod_mutex_row;
 
 /*
- * A buffer: how many bytes of its bufsz no stored message takes; the length of the next message (shinepod_next_message), 0 if there is
- * none; the first that waits to receive, and the first that waits to send.
+ * A buffer: how many bytes of its bufsz no stored message takes; how many bytes are over for a message of maxmsz bytes, by what it
+ * costs, or lacking, below 0, and 0 for an exact fit; the length of the next message (shinepod_next_message), 0 if there is none; the
+ * first that waits to receive, and the first that waits to send.
  */
 typedef struct {
-    uint32_t free, next, receiver, sender;
+    uint32_t free;
+    int32_t room;
+    uint32_t next, receiver, sender;
 } shinepod_buffer_row;
 
 /* A pool: how many blocks are free, and the first that waits for one. */

@@ -51,7 +51,7 @@ macro_rules! row {
 
 row!(TaskRow, state, base, current, kind, object, left);
 row!(MutexRow, holder, waiter);
-row!(BufferRow, free, next, receiver, sender);
+row!(BufferRow, free, room, next, receiver, sender);
 row!(PoolRow, free, waiter);
 
 /// A function of the board.

@@ -37,6 +37,8 @@ pub struct MutexRow {
 pub struct BufferRow {
     /// Bytes of bufsz that no stored message takes.
     pub free: u32,
+    /// Bytes over, or lacking (below zero), for a message of maxmsz bytes; 0 for an exact fit.
+    pub room: i32,
     /// Length of the message that a receive would take, stored or a sender's; 0 if there is none.
     pub next: u32,
     /// The first of each queue.
@@ -128,6 +130,7 @@ pub(crate) fn buffer_row(kernel: &Kernel, number: BufferNo) -> Option<BufferRow>
     let buffer = kernel.buffer(number)?;
     Some(BufferRow {
         free: u32::from(buffer.bufsz - buffer.used),
+        room: buffer.room(usize::from(buffer.maxmsz)),
         next: kernel.next_message(i32::from(number.get())).len() as u32,
         receiver: first(kernel, buffer.receivers, Order::Arrival),
         sender: first(kernel, buffer.senders, buffer.sender_order()),

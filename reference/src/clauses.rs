@@ -395,9 +395,7 @@ impl Lent<'_> {
             (if by_priority { self.current[t] } else { 0 }, arrival)
         });
         let length = head.map(|t| self.argument[t]).filter(|&length| is_length(length));
-        length.is_some_and(|length| {
-            u64::from(self.used[b]) + cost(length as usize) as u64 <= u64::from(self.bufsz[b])
-        })
+        length.is_some_and(|length| room(self.bufsz[b], self.used[b], length as usize) >= 0)
     }
 
     fn stretch(&self, b: usize) -> &[u8] {

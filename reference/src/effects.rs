@@ -317,7 +317,7 @@ impl Kernel {
             self.end_wait(receiver, msgsz, Got::Message(zero_filled(message)), out);
             return DONE;
         }
-        if buffer.fits(length) && self.would_head(caller, &buffer) {
+        if buffer.room(length) >= 0 && self.would_head(caller, &buffer) {
             self.put(number, message);
             return DONE;
         }
@@ -396,7 +396,7 @@ impl Kernel {
             while let Some(buffer) = &self.buffers[i] {
                 let Some(sender) = self.first(buffer.senders, buffer.sender_order()) else { break };
                 let length = usize::from(self.task(sender).length);
-                if !buffer.fits(length) {
+                if buffer.room(length) < 0 {
                     break;
                 }
                 let message = self.outbox[sender.index()];

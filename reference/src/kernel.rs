@@ -73,9 +73,11 @@ pub struct Buffer {
 }
 
 impl Buffer {
+    /// Bytes over, or lacking (below zero), for a message of this length: it fits unless some are
+    /// lacking.
     #[inline]
-    pub fn fits(&self, length: usize) -> bool {
-        usize::from(self.used) + cost(length) <= usize::from(self.bufsz)
+    pub fn room(&self, length: usize) -> i32 {
+        room(u32::from(self.bufsz), u32::from(self.used), length) as i32
     }
 }
 

@@ -79,6 +79,13 @@ pub const fn cost(length: usize) -> usize {
     LENGTH + length.next_multiple_of(LENGTH)
 }
 
+/// "How many bytes are over, or lacking (below zero), as one signed number, zero for an exact fit": by
+/// the cost of a message of this length, where `used` of bufsz are in use. Takes any words where a
+/// `usize` has 64 bits.
+pub const fn room(bufsz: u32, used: u32, length: usize) -> i64 {
+    bufsz as i64 - used as i64 - cost(length) as i64
+}
+
 /// Whether the number is a pool's attribute: the order (0 or 1) plus a protection level.
 pub const fn is_pool_attribute(attribute: u32) -> bool {
     attribute & !0x301 == 0

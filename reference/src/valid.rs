@@ -270,12 +270,12 @@ impl<'a> Lent<'a> {
     fn buffers_agree(&self) -> bool {
         (1..PER_BUFFER).all(|b| {
             let stretch = &self.store[(b - 1) * STRETCH..b * STRETCH];
-            let (bufsz, used) = (self.bufsz[b] as usize, self.used[b] as usize);
+            let (bufsz, used) = (self.bufsz[b], self.used[b]);
             let sender = self.first_sender(b);
             let receiver = self.queue(RECEIVING, b).next();
-            packed(stretch, used, self.maxmsz[b])
+            packed(stretch, used as usize, self.maxmsz[b])
                 && (receiver.is_none() || used == 0 && sender.is_none())
-                && sender.is_none_or(|t| used + cost(self.argument[t] as usize) > bufsz)
+                && sender.is_none_or(|t| room(bufsz, used, self.argument[t] as usize) < 0)
         })
     }
 

@@ -96,6 +96,7 @@ fn buffer_table(board: &Board) -> String {
     let columns = [
         number("buffer"),
         number("free bytes"),
+        number("room for maxmsz"),
         number("next message"),
         word("first receiver"),
         word("first sender"),
@@ -104,6 +105,7 @@ fn buffer_table(board: &Board) -> String {
         [
             buffer.to_string(),
             row.free.to_string(),
+            row.room.to_string(),
             if row.next == 0 { none() } else { row.next.to_string() },
             task_or_none(row.receiver),
             task_or_none(row.sender),

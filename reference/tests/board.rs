@@ -28,7 +28,8 @@ const OLD: u32 = 0xA5A5_A5A5;
 const OLD_TASK: TaskRow =
     TaskRow { state: OLD, base: OLD, current: OLD, kind: OLD, object: OLD, left: OLD as i32 };
 const OLD_MUTEX: MutexRow = MutexRow { holder: OLD, waiter: OLD };
-const OLD_BUFFER: BufferRow = BufferRow { free: OLD, next: OLD, receiver: OLD, sender: OLD };
+const OLD_BUFFER: BufferRow =
+    BufferRow { free: OLD, room: OLD as i32, next: OLD, receiver: OLD, sender: OLD };
 const OLD_POOL: PoolRow = PoolRow { free: OLD, waiter: OLD };
 
 impl Tables {
@@ -317,13 +318,20 @@ fn the_first_waiter_goes_by_current_priority() {
     test.waits(snd_mbf(1, 3, -1));
     let high = test.start(6);
     test.waits(snd_mbf(1, 5, -1));
-    assert_eq!(buffer(&test, 1), BufferRow { free: 0, next: 5, receiver: 0, sender: high as u32 });
+    // 8 bytes cost 12, which bufsz 0 lacks.
+    let row = |next, sender: i32| BufferRow {
+        room: -12,
+        next,
+        sender: sender as u32,
+        ..BufferRow::default()
+    };
+    assert_eq!(buffer(&test, 1), row(5, high));
     let urgent = test.start(2);
     test.waits(loc_mtx(1, 1));
-    assert_eq!(buffer(&test, 1), BufferRow { free: 0, next: 3, receiver: 0, sender: low as u32 });
+    assert_eq!(buffer(&test, 1), row(3, low));
     assert_eq!(mutex(&test, 1), MutexRow { holder: low as u32, waiter: urgent as u32 });
     test.ok(Call::Tick);
-    assert_eq!(buffer(&test, 1), BufferRow { free: 0, next: 5, receiver: 0, sender: high as u32 });
+    assert_eq!(buffer(&test, 1), row(5, high));
     assert_eq!(mutex(&test, 1), MutexRow { holder: low as u32, waiter: 0 });
 }
 
@@ -353,14 +361,19 @@ fn free_bytes_and_the_next_message() {
     test.code(cre_mbf(0, STRETCH as i32, MESSAGE as i32));
     test.code(cre_mbf(0, 35, MESSAGE as i32));
     test.code(cre_mbf(0, 0, MESSAGE as i32));
-    let row =
-        |free, next, sender: i32| BufferRow { free, next, receiver: 0, sender: sender as u32 };
+    let row = |free, room, next, sender: i32| BufferRow {
+        free,
+        room,
+        next,
+        receiver: 0,
+        sender: sender as u32,
+    };
     let rows = |test: &TestKernel| [1, 2, 3].map(|b| buffer(test, b));
-    assert_eq!(rows(&test), [row(256, 0, 0), row(35, 0, 0), row(0, 0, 0)]);
+    assert_eq!(rows(&test), [row(256, 220, 0, 0), row(35, -1, 0, 0), row(0, -36, 0, 0)]);
     // A message costs 4 and its length, rounded up to a multiple of 4; the oldest is next.
-    for (msgsz, free) in [(5, 244), (1, 236), (4, 228), (32, 192)] {
+    for (msgsz, free, room) in [(5, 244, 208), (1, 236, 200), (4, 228, 192), (32, 192, 156)] {
         test.ok(snd_mbf(1, msgsz, 0));
-        assert_eq!(buffer(&test, 1), row(free, 5, 0));
+        assert_eq!(buffer(&test, 1), row(free, room, 5, 0));
     }
     // Whose message does not fit waits; before it what is stored is taken.
     test.ok(snd_mbf(2, 9, 0));
@@ -368,17 +381,20 @@ fn free_bytes_and_the_next_message() {
     test.waits(snd_mbf(2, 32, -1));
     let third = test.start(7);
     test.waits(snd_mbf(3, 31, -1));
-    assert_eq!(rows(&test), [row(192, 5, 0), row(19, 9, second), row(0, 31, third)]);
-    for (left, free, next) in [(3, 204, 1), (2, 212, 4), (1, 220, 32), (0, 256, 0)] {
+    let expected = [row(192, 156, 5, 0), row(19, -17, 9, second), row(0, -36, 31, third)];
+    assert_eq!(rows(&test), expected);
+    for (left, free, room, next) in
+        [(3, 204, 168, 1), (2, 212, 176, 4), (1, 220, 184, 32), (0, 256, 220, 0)]
+    {
         assert!(test.code(rcv_mbf(1, 0)) > 0);
-        assert_eq!(buffer(&test, 1), row(free, next, 0), "{left} are stored");
+        assert_eq!(buffer(&test, 1), row(free, room, next, 0), "{left} are stored");
     }
     // In the buffer of 35 a message of 32 bytes is never stored.
     assert_eq!(test.code(rcv_mbf(2, 0)), 9);
-    assert_eq!(buffer(&test, 2), row(35, 32, second));
+    assert_eq!(buffer(&test, 2), row(35, -1, 32, second));
     assert_eq!(test.code(rcv_mbf(2, 0)), 32);
     assert_eq!(test.code(rcv_mbf(3, 0)), 31);
-    assert_eq!(rows(&test), [row(256, 0, 0), row(35, 0, 0), row(0, 0, 0)]);
+    assert_eq!(rows(&test), [row(256, 220, 0, 0), row(35, -1, 0, 0), row(0, -36, 0, 0)]);
 }
 
 #[test]
@@ -386,14 +402,15 @@ fn a_buffer_that_is_full_and_one_with_receivers() {
     let mut test = TestKernel::new();
     test.code(cre_mbf(1, 36, MESSAGE as i32));
     test.ok(snd_mbf(1, 32, 0));
-    assert_eq!(buffer(&test, 1), BufferRow { free: 0, next: 32, receiver: 0, sender: 0 });
+    let row = BufferRow { free: 0, room: -36, next: 32, receiver: 0, sender: 0 };
+    assert_eq!(buffer(&test, 1), row);
     test.code(cre_mbf(1, 36, MESSAGE as i32));
     let [early, _] = [6, 2].map(|priority| {
         let waits = test.start(priority);
         test.waits(rcv_mbf(2, -1));
         waits
     });
-    let row = BufferRow { free: 36, next: 0, receiver: early as u32, sender: 0 };
+    let row = BufferRow { free: 36, room: 0, next: 0, receiver: early as u32, sender: 0 };
     assert_eq!(buffer(&test, 2), row);
 }
 
@@ -442,7 +459,7 @@ fn rows_of_deleted_objects_are_left() {
     let mut expected = Tables {
         tasks: vec![idle(16, 9); TASKS],
         mutexes: vec![MutexRow::default(); MUTEXES],
-        buffers: vec![BufferRow { free: 40, ..BufferRow::default() }; BUFFERS],
+        buffers: vec![BufferRow { free: 40, room: 32, ..BufferRow::default() }; BUFFERS],
         pools: vec![PoolRow { free: 3, waiter: 0 }; POOLS],
     };
     expected.tasks[0] = idle(1, 8);
@@ -626,8 +643,11 @@ fn mutex_by_words(lent: &State, m: usize) -> MutexRow {
 fn buffer_by_words(lent: &State, b: usize) -> BufferRow {
     let sender = first_of(lent, SENDING, b, lent.word(at::BUFFER_ATTRIBUTE, b) == 1);
     let used = lent.word(at::USED, b);
+    let free = lent.word(at::BUFSZ, b) - used;
+    let cost = 4 + lent.word(at::MAXMSZ, b).div_ceil(4) * 4;
     BufferRow {
-        free: lent.word(at::BUFSZ, b) - used,
+        free,
+        room: free as i32 - cost as i32,
         next: match (used, sender) {
             (0, 0) => 0,
             (0, sender) => lent.word(at::ARGUMENT, sender as usize),

@@ -54,9 +54,9 @@ fn rows_as_text() {
             (8, MutexRow { holder: 16, waiter: 0 }),
         ],
         buffers: vec![
-            (1, BufferRow { free: 256, next: 0, receiver: 3, sender: 0 }),
-            (2, BufferRow { free: 0, next: 32, receiver: 0, sender: 12 }),
-            (4, BufferRow { free: 8, next: 0, receiver: 16, sender: 0 }),
+            (1, BufferRow { free: 256, room: 220, next: 0, receiver: 3, sender: 0 }),
+            (2, BufferRow { free: 0, room: -36, next: 32, receiver: 0, sender: 12 }),
+            (4, BufferRow { free: 8, room: 0, next: 0, receiver: 16, sender: 0 }),
         ],
         pools: vec![
             (1, PoolRow { free: 3, waiter: 0 }),
@@ -79,10 +79,10 @@ mutex  holder   first waiter
     2  -        -
     8  task 16  -
 
-buffer  free bytes  next message  first receiver  first sender
-     1         256             -  task 3          -
-     2           0            32  -               task 12
-     4           8             -  task 16         -
+buffer  free bytes  room for maxmsz  next message  first receiver  first sender
+     1         256              220             -  task 3          -
+     2           0              -36            32  -               task 12
+     4           8                0             -  task 16         -
 
 pool  free blocks  first waiter
    1            3  -
@@ -157,9 +157,9 @@ mutex  holder   first waiter
     1  task 1   task 2
     3  -        -
 
-buffer  free bytes  next message  first receiver  first sender
-     1           4            30  -               task 5
-     2           0             -  task 4          -
+buffer  free bytes  room for maxmsz  next message  first receiver  first sender
+     1           4              -32            30  -               task 5
+     2           0               -8             -  task 4          -
 
 pool  free blocks  first waiter
    1            1  -
@@ -168,6 +168,44 @@ pool  free blocks  first waiter
         script.len()
     );
     assert_text(&wall(&script), &expected);
+}
+
+#[test]
+fn room_in_the_table() {
+    let script = script(&[
+        cre_mbf(0, 256, 28), // costs 32
+        cre_mbf(0, 36, 32),  // costs 36
+        cre_mbf(0, 35, 29),  // costs 36
+        cre_mbf(0, 0, 5),    // costs 12
+        snd_mbf(1, 28, 0),   // 224 are left of 256
+        snd_mbf(3, 28, 0),   // 3 are left of 35
+    ]);
+    let expected = "\
+buffer  free bytes  room for maxmsz  next message  first receiver  first sender
+     1         224              192            28  -               -
+     2          36                0             -  -               -
+     3           3              -33            28  -               -
+     4           0              -12             -  -               -";
+    assert_text(wall(&script).split("\n\n").nth(3).unwrap(), expected);
+}
+
+/// bufsz and maxmsz of an empty buffer, and the beginning of its row.
+const ROOMS: [(i32, i32, &str); 7] = [
+    (256, 1, "\n     1         256              248  "),
+    (255, 32, "\n     1         255              219  "),
+    (37, 32, "\n     1          37                1  "),
+    (36, 32, "\n     1          36                0  "),
+    (35, 32, "\n     1          35               -1  "),
+    (0, 1, "\n     1           0               -8  "),
+    (0, 32, "\n     1           0              -36  "),
+];
+
+#[test]
+fn room_of_one_to_three_digits_and_below_zero() {
+    for (bufsz, maxmsz, row) in ROOMS {
+        let text = wall(&script(&[cre_mbf(0, bufsz, maxmsz)]));
+        assert!(text.contains(row), "{text}");
+    }
 }
 
 #[test]
@@ -304,8 +342,9 @@ fn read_board(text: &str) -> Board {
         (object(&cells), MutexRow { holder: number(&cells[1]), waiter: number(&cells[2]) })
     };
     let buffer_row = |cells: Vec<String>| {
-        let [free, next, receiver, sender] = [1, 2, 3, 4].map(|i| number(&cells[i]));
-        (object(&cells), BufferRow { free, next, receiver, sender })
+        let [free, next, receiver, sender] = [1, 3, 4, 5].map(|i| number(&cells[i]));
+        let room = cells[2].parse().unwrap();
+        (object(&cells), BufferRow { free, room, next, receiver, sender })
     };
     let pool_row = |cells: Vec<String>| {
         (object(&cells), PoolRow { free: number(&cells[1]), waiter: number(&cells[2]) })
@@ -313,7 +352,7 @@ fn read_board(text: &str) -> Board {
     let columns = [(0, 4), (6, 13), (15, 19), (21, 28), (30, 39), (41, LAST)];
     let tasks = read_table(tasks, "no tasks", &columns);
     let mutexes = read_table(mutexes, "no mutexes", &[(0, 5), (7, 14), (16, LAST)]);
-    let columns = [(0, 6), (8, 18), (20, 32), (34, 48), (50, LAST)];
+    let columns = [(0, 6), (8, 18), (20, 35), (37, 49), (51, 65), (67, LAST)];
     let buffers = read_table(buffers, "no buffers", &columns);
     let pools = read_table(pools, "no pools", &[(0, 4), (6, 17), (19, LAST)]);
     Board {

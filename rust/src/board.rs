@@ -31,6 +31,8 @@ pub struct MutexRow {
 pub struct BufferRow {
     /// How many bytes of its `bufsz` no stored message takes.
     pub free: u32,
+    /// How many bytes are over for a message of `maxmsz` bytes, by what it costs, or lacking, below 0; 0 for an exact fit.
+    pub room: i32,
     /// The length of the next message ([`next_message`](crate::next_message())), 0 if there is none.
     pub next: u32,
     /// The first that waits to receive.

@@ -1,6 +1,6 @@
 //! The status board held against document 02: what the rows hold, which are written, and what is refused.
 
-use std::mem::size_of;
+use std::mem::{offset_of, size_of};
 
 use shinepod::board::{BufferRow, MutexRow, PoolRow, TaskRow};
 use shinepod::numbers::*;
@@ -23,7 +23,8 @@ const OLD: u32 = 0xA5A5_A5A5;
 const OLD_TASK: TaskRow =
     TaskRow { state: OLD, base: OLD, current: OLD, kind: OLD, object: OLD, left: OLD as i32 };
 const OLD_MUTEX: MutexRow = MutexRow { holder: OLD, waiter: OLD };
-const OLD_BUFFER: BufferRow = BufferRow { free: OLD, next: OLD, receiver: OLD, sender: OLD };
+const OLD_BUFFER: BufferRow =
+    BufferRow { free: OLD, room: OLD as i32, next: OLD, receiver: OLD, sender: OLD };
 const OLD_POOL: PoolRow = PoolRow { free: OLD, waiter: OLD };
 
 impl Tables {
@@ -67,7 +68,8 @@ impl Tables {
 #[test]
 fn rows_have_the_sizes_that_c_has() {
     assert_eq!([size_of::<TaskRow>(), size_of::<MutexRow>()], [24, 8]);
-    assert_eq!([size_of::<BufferRow>(), size_of::<PoolRow>()], [16, 8]);
+    assert_eq!([size_of::<BufferRow>(), size_of::<PoolRow>()], [20, 8]);
+    assert_eq!([offset_of!(BufferRow, room), offset_of!(BufferRow, next)], [4, 8]);
 }
 
 #[test]
@@ -126,7 +128,7 @@ fn every_field_of_a_busy_kernel() {
         row(TTS_RDY, 6, 6, 0, 0, 0),
     ]);
     expected.mutexes[0] = MutexRow { holder: 1, waiter: 2 };
-    expected.buffers[0] = BufferRow { free: 0, next: 4, receiver: 0, sender: 3 };
+    expected.buffers[0] = BufferRow { free: 0, room: -8, next: 4, receiver: 0, sender: 3 };
     expected.pools[0] = PoolRow { free: 0, waiter: 4 };
     assert_eq!(Tables::of(&kernel), expected);
     // Task 4's wait is over: it returns the block and receives, so that task 3's message is stored.
@@ -137,18 +139,41 @@ fn every_field_of_a_busy_kernel() {
     expected.tasks[1].left = 7;
     expected.tasks[2] = row(TTS_RDY, 4, 4, 0, 0, 0);
     expected.tasks[3] = row(TTS_RUN, 3, 3, 0, 0, 0);
-    expected.buffers[0] = BufferRow { free: 0, next: 3, receiver: 0, sender: 0 };
+    expected.buffers[0] = BufferRow { free: 0, room: -8, next: 3, receiver: 0, sender: 0 };
     expected.pools[0] = PoolRow { free: 1, waiter: 0 };
     assert_eq!(Tables::of(&kernel), expected);
     // It receives that one too, then waits for more.
     assert_eq!(kernel.rcv_mbf(1, TMO_POL), Outcome::Answered(3));
     assert_eq!(kernel.rcv_mbf(1, TMO_FEVR), Outcome::Waits);
     let rows = Tables::of(&kernel);
-    assert_eq!(rows.buffers[0], BufferRow { free: 8, next: 0, receiver: 4, sender: 0 });
+    assert_eq!(rows.buffers[0], BufferRow { free: 8, room: 0, next: 0, receiver: 4, sender: 0 });
     assert_eq!(rows.tasks[3], row(TTS_WAI, 3, 3, TK_CRE_MBF, 1, -1));
     // A deleted mutex's row is not written.
     assert_eq!(kernel.del_mtx(1), Outcome::Answered(E_OK));
     assert_eq!(Tables::of(&kernel).mutexes[0], OLD_MUTEX);
+}
+
+/// A message of 28 bytes costs 32, one of 29 to 32 bytes 36.
+#[test]
+fn how_much_is_missing() {
+    for (bufsz, maxmsz, room) in [
+        (0, 1, -8),
+        (0, 32, -36),
+        (31, 28, -1),
+        (32, 28, 0),
+        (33, 28, 1),
+        (35, 29, -1),
+        (36, 29, 0),
+        (37, 29, 1),
+        (256, 32, 220),
+        (256, 1, 248),
+    ] {
+        let mut kernel = Kernel::new();
+        assert_eq!(kernel.cre_mbf(TA_TFIFO, bufsz, maxmsz), Outcome::Answered(1));
+        assert_eq!(Tables::of(&kernel).buffers[0].room, room, "{bufsz} {maxmsz}");
+        let sent = kernel.snd_mbf(1, &[7; 32][..maxmsz as usize], TMO_POL);
+        assert_eq!(sent, Outcome::Answered(if room < 0 { E_TMOUT } else { E_OK }));
+    }
 }
 
 #[test]

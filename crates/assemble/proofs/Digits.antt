@@ -7,8 +7,8 @@ use lib.ListN.{length, drop, drop-of-length-le}
 use lib.IntN.{ℤ, pos, negsuc, _-ℤ_}
 use mir.Syntax.{w32}
 use mir.Val.{SFits, toZ, ofZ}
-use mir.Facts.{toZ-pos, toZ-ofZ}
-use Rattle.script.proofs.Signed.{less-than-minus-one}
+use mir.Facts.{toZ-ofZ}
+use Rattle.model.proofs.IntegerLaws.{below-minus-one}
 use Rattle.model.proofs.Terms.{_!_, minus, eq-eqb, ne-eqb, le-leb, lt-leb, lt-ltb, le-ltb}
 use Rattle.assemble.specs.declared.number.Number.{Number}
 use Rattle.assemble.specs.declared.number.Number.the-variants.{Value, Nothing}
@@ -85,7 +85,7 @@ module _ (n : ℕ) (h : n ≤ largest) (more : n ≡ 0 → ⊥) where
   low = omega arith
 
   below : machine ≡ negsuc (n - 1)
-  below = ap (λ (z : ℤ). negsuc 0 -ℤ z) (toZ-pos w32 low) ∙ less-than-minus-one (n - 1)
+  below = below-minus-one (n - 1) low
 
   pub down-fits : SFits w32 machine
   down-fits = rw below (record { sfits = low })

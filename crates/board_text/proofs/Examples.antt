@@ -23,8 +23,8 @@ task state base current kind object left = record { state = state; base = base; 
 abbrev mutex : ℕ → ℕ → MutexRow
 mutex holder waiter = record { holder = holder; waiter = waiter }
 
-abbrev buffer : ℕ → ℕ → ℕ → ℕ → BufferRow
-buffer free next receiver sender = record { free = free; next = next; receiver = receiver; sender = sender }
+abbrev buffer : ℕ → ℤ → ℕ → ℕ → ℕ → BufferRow
+buffer free room next receiver sender = record { free = free; room = room; next = next; receiver = receiver; sender = sender }
 
 abbrev pool : ℕ → ℕ → PoolRow
 pool free waiter = record { free = free; waiter = waiter }
@@ -53,10 +53,12 @@ some-mutexes : tableText mutexTable (mutex 2 12 ∷ mutex 0 0 ∷ blankMutex ∷
 unfolding computeWall
 some-mutexes = refl
 
-some-buffers : tableText bufferTable (buffer 256 0 3 0 ∷ buffer 0 32 0 12 ∷ [])
-    ≡ ascii "buffer  free bytes  next message  first receiver  first sender\n"
-    ++ ascii "     1         256             -  task 3          -\n"
-    ++ ascii "     2           0            32  -               task 12\n"
+some-buffers : tableText bufferTable (buffer 256 (pos 220) 0 3 0 ∷ buffer 0 (minus 36) 32 0 12 ∷ buffer 36 (pos 0) 0 0 0 ∷ buffer 35 (minus 1) 0 0 0 ∷ [])
+    ≡ ascii "buffer  free bytes  room for maxmsz  next message  first receiver  first sender\n"
+    ++ ascii "     1         256              220             -  task 3          -\n"
+    ++ ascii "     2           0              -36            32  -               task 12\n"
+    ++ ascii "     3          36                0             -  -               -\n"
+    ++ ascii "     4          35               -1             -  -               -\n"
 unfolding computeWall
 some-buffers = refl
 

@@ -23,9 +23,9 @@ use Rattle.text.specs.Numbers.{decimal}
 use Rattle.text.specs.Line.{lineBytes, IsFront}
 use Rattle.text.specs.Place.{placeLine}
 use Rattle.text.specs.Turn.{turnText, textBytes}
-use Rattle.text.proofs.Fitting.{decimal-short, place-fits}
+use Rattle.text.proofs.Fitting.{decimal-short, signed-short, place-fits}
 use Rattle.board_text.specs.declared.cell.Cell.{Cell}
-use Rattle.board_text.specs.declared.cell.Cell.the-variants.{Number, State, Awaited, Time, Task, Length}
+use Rattle.board_text.specs.declared.cell.Cell.the-variants.{Number, Signed, State, Awaited, Time, Task, Length}
 use Rattle.board_text.specs.declared.column.Column.{Column}
 use Rattle.board_text.specs.declared.column.Column.the-variants.{Right, Left, Last}
 use Rattle.board_text.specs.Cell.{states, stateName, objects, objectName, awaitedText, taskText, lengthText, timeText, cellText}
@@ -49,6 +49,7 @@ named-short n (r ∷ rows) =
 pub cell-short : (c : Cell) → length (cellText c) ≤ 32
 unfolding cellText stateName objectName awaitedText taskText lengthText timeText
 cell-short (Number n) = omega (arith, decimal-short n)
+cell-short (Signed z) = omega (arith, signed-short z)
 cell-short (State state) = omega (arith, named-short state states)
 cell-short (Awaited kind object) =
     either (λ (t : List ℕ). length t ≤ 32) (eqb kind 0) (omega arith)
@@ -66,7 +67,7 @@ width (Right n) = n
 width (Left n) = n
 width Last = 0
 
-column-short : (c : Column) (cell : List ℕ) → length cell ≤ 32 → length (inColumn c cell) ≤ width c + 34
+column-short : (c : Column) (cell : List ℕ) → length cell ≤ 32 → length (inColumn c cell) ≤ max (width c) 32 + 2
 unfolding inColumn
 column-short (Right n) cell h =
     let s = spaces (n - length cell) in
@@ -79,7 +80,7 @@ column-short Last cell h = omega (arith, length-append cell (ascii "\n"))
 -- with a cell of any length in each column
 abbrev longestLine : List (Column × String) → ℕ
 longestLine [] = 0
-longestLine (c ∷ cs) = width (c .0) + 34 + longestLine cs
+longestLine (c ∷ cs) = max (width (c .0)) 32 + 2 + longestLine cs
 
 line-short : (columns : List (Column × String)) (cells : List Cell) → length (lineOf columns (map cellText cells)) ≤ longestLine columns
 line-short [] cells = omega arith

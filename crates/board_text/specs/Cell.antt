@@ -6,9 +6,9 @@ use mathlib.Core.List.{List, [], _∷_, _++_}
 use lib.IntN.{ℤ, pos, negsuc}
 use lib.Dec.{eqb}
 use Rattle.text.specs.Names.{ascii, named}
-use Rattle.text.specs.Numbers.{decimal}
+use Rattle.text.specs.Numbers.{decimal, signedDecimal}
 use Rattle.board_text.specs.declared.cell.Cell.{Cell}
-use Rattle.board_text.specs.declared.cell.Cell.the-variants.{Number, State, Awaited, Time, Task, Length}
+use Rattle.board_text.specs.declared.cell.Cell.the-variants.{Number, Signed, State, Awaited, Time, Task, Length}
 
 -- 0 stands for none
 abbrev pub orDash : ℕ → List ℕ → List ℕ
@@ -44,6 +44,7 @@ timeText (pos (suc n)) = decimal (suc n) ++ ascii " ms"
 
 unfoldable pub cellText : Cell → List ℕ
 cellText (Number n) = decimal n
+cellText (Signed z) = signedDecimal z
 cellText (State state) = stateName state
 cellText (Awaited kind object) = awaitedText kind object
 cellText (Time left) = timeText left
@@ -52,5 +53,5 @@ cellText (Length n) = lengthText n
 
 -- what has to unfold for the definitions of this file to compute
 unfoldable pub computeCell : Unit {0}
-unfolding decimal stateName objectName awaitedText taskText lengthText timeText cellText
+unfolding decimal signedDecimal stateName objectName awaitedText taskText lengthText timeText cellText
 computeCell = tt

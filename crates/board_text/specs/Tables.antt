@@ -8,7 +8,7 @@ use Rattle.status.specs.declared.row.MutexRow.{MutexRow}
 use Rattle.status.specs.declared.row.BufferRow.{BufferRow}
 use Rattle.status.specs.declared.row.PoolRow.{PoolRow}
 use Rattle.status.specs.Blank.{largestWord}
-use Rattle.board_text.specs.declared.cell.Cell.the-variants.{Number, State, Awaited, Time, Task, Length}
+use Rattle.board_text.specs.declared.cell.Cell.the-variants.{Number, Signed, State, Awaited, Time, Task, Length}
 use Rattle.board_text.specs.declared.column.Column.the-variants.{Right, Left, Last}
 use Rattle.board_text.specs.Table.{Table}
 
@@ -37,8 +37,9 @@ mutexTable =
 unfoldable pub bufferTable : Table BufferRow
 bufferTable =
     record {
-      columns = (Right 6, "buffer") ∷ (Right 10, "free bytes") ∷ (Right 12, "next message") ∷ (Left 14, "first receiver") ∷ (Last, "first sender") ∷ [];
-      cells = λ n row. Number n ∷ Number (row .free) ∷ Length (row .next) ∷ Task (row .receiver) ∷ Task (row .sender) ∷ [];
+      columns = (Right 6, "buffer") ∷ (Right 10, "free bytes") ∷ (Right 15, "room for maxmsz") ∷ (Right 12, "next message") ∷ (Left 14, "first receiver") ∷ (Last, "first sender")
+          ∷ [];
+      cells = λ n row. Number n ∷ Number (row .free) ∷ Signed (row .room) ∷ Length (row .next) ∷ Task (row .receiver) ∷ Task (row .sender) ∷ [];
       shown = λ row. written (row .free);
       nothing = "no buffers\n";
     }

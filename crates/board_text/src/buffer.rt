@@ -15,6 +15,7 @@ fn put_row(text: &mut [u8], at: usize, n: u32, row: BufferRow) -> usize
 {
     let next = put_cell(text, at, Column::Right(6), Cell::Number(n));
     let next = put_cell(text, next, Column::Right(10), Cell::Number(row.free));
+    let next = put_cell(text, next, Column::Right(15), Cell::Signed(row.room));
     let next = put_cell(text, next, Column::Right(12), Cell::Length(row.next));
     let next = put_cell(text, next, Column::Left(14), Cell::Task(row.receiver));
     put_cell(text, next, Column::Last, Cell::Task(row.sender))
@@ -34,7 +35,7 @@ pub(crate) fn put_buffers(text: &mut [u8], at: usize, rows: [BufferRow; BUFFERS 
             text,
             next,
             any,
-            b"buffer  free bytes  next message  first receiver  first sender\n",
+            b"buffer  free bytes  room for maxmsz  next message  first receiver  first sender\n",
         );
         next = put_row(text, first, i as u32 + 1, row);
         any = true;

@@ -18,9 +18,10 @@ const BUFFER: u32 = CRE_MBF as u32;
 
 const POOL: u32 = CRE_MPF as u32;
 
-// A number; a task's state; what a task waits for, by its creating kind and its number; milliseconds left; a task; the length of a message.
+// A number; one with a sign; a task's state; what a task waits for, by its creating kind and its number; milliseconds left; a task; the length of a message.
 pub enum Cell {
     Number(u32),
+    Signed(i32),
     State(u32),
     Awaited(u32, u32),
     Time(i32),
@@ -99,6 +100,7 @@ pub(crate) fn put_content(text: &mut [u8], at: usize, cell: Cell) -> usize
 {
     match cell {
         Cell::Number(n) => put_number(text, at, n as usize),
+        Cell::Signed(z) => put_signed(text, at, z),
         Cell::State(state) => put_state(text, at, state),
         Cell::Awaited(kind, object) => put_awaited(text, at, kind, object),
         Cell::Time(left) => put_time(text, at, left),

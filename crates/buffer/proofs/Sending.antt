@@ -1,5 +1,5 @@
 -- snd_mbf, in the order of the code's steps.
-use Rattle.model.proofs.Terms.{ℕ, _+_, _≤_, _<_, min, arith, _≡_, _∙_, refl, sym, ap, _≢_, Bool, true, false, _&&_, not, none, List, [], _∷_, _++_, length, take, drop, length-take, ℤ, pos, negsuc, ltZ, leZ, leb, eq-eqb, ne-eqb, lt-ltb, le-ltb, not-true, not-false, buffers, messageBytes, _!_, zeros, allZero, E-OK, E-PAR, E-ID, E-NOEXS, E-TMOUT, number, sending, receiving, queue, Kernel, withOutbox, queueFront, headsQueue, running, Nothing, Message, handed, cost, withOutboxMessage, wait, endWait, fits, storeMessage, badTimeout, dirtyTail, badNumber, noSuch, noTime, outside, storable, sendWaits, sndMbfRefusals, Refusal, refuse, firstRefusal, sndMbf, kernel, wordCount, answerBytes, Areas}
+use Rattle.model.proofs.Terms.{ℕ, _≤_, _<_, min, arith, _≡_, _∙_, refl, sym, ap, _≢_, Bool, true, false, _&&_, not, none, List, [], _∷_, _++_, length, take, drop, length-take, ℤ, pos, negsuc, ltZ, leZ, eq-eqb, ne-eqb, lt-ltb, le-ltb, not-true, not-false, buffers, messageBytes, _!_, zeros, allZero, E-OK, E-PAR, E-ID, E-NOEXS, E-TMOUT, saturated, number, sending, receiving, queue, Kernel, withOutbox, queueFront, headsQueue, running, Nothing, Message, handed, room, withOutboxMessage, wait, endWait, fits, storeMessage, badTimeout, dirtyTail, badNumber, noSuch, noTime, outside, storable, sendWaits, sndMbfRefusals, Refusal, refuse, firstRefusal, sndMbf, kernel, wordCount, answerBytes, Areas}
 use mathlib.Core.Bool.{and-eq-true-iff}
 use lib.Seq.{take-all, take-take, take-append-le}
 use Rattle.model.specs.Number.{fieldNumber, maybeTask, maybeBuffer}
@@ -14,6 +14,7 @@ use Rattle.model.proofs.NumberLaws.{bufferKind, task-is, task-is-none}
 use Rattle.model.proofs.ByCase.{send-over, send-stored, send-waits}
 use Rattle.message.proofs.Parts.{take-least, length-padded}
 use Rattle.message.proofs.Layouts.{padded-behind}
+use Rattle.message.proofs.RoomLaws.{fits-asked}
 use Rattle.script.specs.Place.{Appends, placed}
 use Rattle.script.proofs.Padding.{padded-placed}
 use Rattle.act.specs.Held.{areas, DoesInWords, DoesInStore, DoesInLog}
@@ -38,10 +39,10 @@ module _ (k : Kernel) (b n : ℕ) {caller : ℕ} (runs : caller ≡ running k) {
   unfolding storable
   storable-behind e = rw (heads, not-true h e)
 
-  pub storable-first : not h ≡ false → {used bufsz : ℕ} {r : Bool} → used ≡ k .buffers .used ! b → bufsz ≡ k .buffers .bufsz ! b
-      → r ≡ leb (used + cost n) bufsz → r ≡ storable k b n
-  unfolding storable fits
-  storable-first e u-is s-is r-is = rw (heads, not-false h e, ← u-is, ← s-is) r-is
+  pub storable-first : not h ≡ false → {used bufsz : ℕ} {r y : ℤ} → used ≡ k .buffers .used ! b → bufsz ≡ k .buffers .bufsz ! b
+      → r ≡ saturated (room bufsz used n) → y ≡ r → leZ (pos 0) y ≡ storable k b n
+  unfolding storable
+  storable-first e u-is s-is r-is y-is = rw (heads, not-false h e) (sym (fits-asked k b n s-is u-is r-is y-is))
 
 pub storable-fits : (k : Kernel) (b n : ℕ) → storable k b n ≡ true → fits k b n ≡ true
 unfolding storable

@@ -7,7 +7,7 @@ use areas::bytes::behind;
 use areas::bytes::first;
 use message::copy::least;
 use message::outbox::outbox_put;
-use message::room::fits;
+use message::room::room;
 use model::call::Answer;
 use model::code::E_ID;
 use model::code::E_NOEXS;
@@ -45,7 +45,7 @@ ghost use Rattle.model.specs.Code.{number};
 ghost use Rattle.model.specs.Facts.{queue, receiving};
 ghost use Rattle.model.specs.World.{queueFront, running};
 ghost use Rattle.model.specs.Message.{handed};
-ghost use Rattle.model.specs.Act.{fits as fitsIn};
+ghost use Rattle.model.specs.Act.{fits};
 ghost use Rattle.model.specs.Refusal.{dirtyTail, firstRefusal, storable as storableIn, sendWaits, sndMbfRefusals};
 ghost use Rattle.model.specs.Effect.{sndMbf};
 ghost use Rattle.model.specs.Words.{wordCount, kernel};
@@ -64,7 +64,7 @@ fn storable(state: &[u32], caller: TaskNumber, b: BufferNumber, n: u32) -> bool
     }
     let used = state::buffer::used(state, b);
     let bufsz = state::buffer::bufsz(state, b);
-    fits(used, bufsz, n)
+    room(bufsz, used, n) >= 0
 }
 
 // Neither a receiver nor the buffer takes it.
@@ -162,7 +162,7 @@ fn keep(
     m: &[u8],
 ) -> Reply
     requires { ⌜ length (now state) ≡ wordCount ⌝ }
-    requires { ⌜ fitsIn (kernel (now state)) (b .0) (length (now m)) ≡ true ⌝ }
+    requires { ⌜ fits (kernel (now state)) (b .0) (length (now m)) ≡ true ⌝ }
     ensures { λ x. ⌜ CarriesInStore (caller .0) (sentIn (b .0) (now (m .entry))) (now (state .entry)) (now (store .entry)) (now (log .entry)) at (now (state .exit)) (now (store .exit)) (now (log .exit)) x ⌝ }
 {
     let answer = Answer::Code(E_OK);

@@ -1,9 +1,10 @@
 -- The drain: a first sender that fits is stored and leaves its queue, so the turns that a buffer has are enough, and no other buffer's first sender is touched.
-use Rattle.model.proofs.Terms.{ℕ, zero, suc, _+_, _≤_, _<_, ℕ-discrete, arith, _≡_, _∙_, refl, sym, ap, _≢_, Bool, true, false, not, List, foldl, length, getD-set-other, set-set, eqb, eqb-false, leb-true, not-true, tasks, buffers, _!_, upTo, without, E-OK, queue, readyQueue, sending, receiving, Kernel, withBuffers, withArgument, withLeft, withUsed, facts, standsIn, byPriority, ordered, order, front, World, Nothing, queueOrder, queueFront, cost, arrive, recomputeIf, endWait, fits, storeMessage, sendersMessage, serve, firstFits, storeFirst, drain, Each, From}
+use Rattle.model.proofs.Terms.{ℕ, zero, suc, _+_, _≤_, _<_, ℕ-discrete, arith, _≡_, _∙_, refl, sym, ap, _≢_, Bool, true, false, not, List, foldl, length, getD-set-other, set-set, eqb, eqb-false, not-true, tasks, buffers, _!_, upTo, without, E-OK, queue, readyQueue, sending, receiving, Kernel, withBuffers, withArgument, withLeft, withUsed, facts, standsIn, byPriority, ordered, order, front, World, Nothing, queueOrder, queueFront, cost, arrive, recomputeIf, endWait, fits, storeMessage, sendersMessage, serve, firstFits, storeFirst, drain, Each, From}
 use mathlib.Core.Bool.{and-eq-true-iff}
 use Rattle.model.proofs.ListLaws.{without-none, without-shorter}
 use Rattle.model.proofs.ByCase.{serve-more, serve-stop}
 use Rattle.message.proofs.Areas.{length-outboxMessage}
+use Rattle.message.proofs.RoomLaws.{fits-within}
 use Rattle.queue.proofs.Listing.{room-left}
 use Rattle.queue.proofs.Members.{Stood, order-short, of-queue, front-stood, front-in}
 use Rattle.queue.proofs.Order.{arrive-order}
@@ -20,12 +21,12 @@ pub record Fitting (k : Kernel) (b t : ℕ) : Type 0 where
   room : k .buffers .used ! b + cost (k .tasks .argument ! t) ≤ k .buffers .bufsz ! b
 
 pub fitting : (k : Kernel) (b : ℕ) → firstFits k b ≡ true → Fitting k b (queueFront k (queue sending b))
-unfolding firstFits fits
+unfolding firstFits
 fitting k b e =
     let x = and-eq-true-iff (not (eqb (queueFront k (queue sending b)) 0)) _ .0 e in
-    record { stands = front-stood k (queue sending b) (eqb-false _ 0 (not-true _ (x .0))); room = leb-true _ _ (x .1) }
+    record { stands = front-stood k (queue sending b) (eqb-false _ 0 (not-true _ (x .0))); room = fits-within k b _ (x .1) }
 
--- a first sender is as it was where its queue, the buffer's room and its message's length are
+-- a first sender is as it was where its queue, the buffer's bufsz and bytes used, and its message's length are
 fits-same : (k j : Kernel) (c : ℕ) → queueOrder j (queue sending c) ≡ queueOrder k (queue sending c) → j .buffers .used ! c ≡ k .buffers .used ! c
     → j .buffers .bufsz ! c ≡ k .buffers .bufsz ! c
     → (queueFront k (queue sending c) ≢ 0 → j .tasks .argument ! queueFront k (queue sending c) ≡ k .tasks .argument ! queueFront k (queue sending c))

@@ -8,3 +8,4 @@ pub mod Layouts
 pub mod Kept
 pub mod Areas
 pub mod Shown
+pub mod RoomLaws

@@ -1,2 +1,3 @@
 pub mod NextMessage
 pub mod Parts
+pub mod Room

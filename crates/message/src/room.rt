@@ -1,8 +1,10 @@
-// What a message costs in a buffer, and whether it fits.
+// What a message costs in a buffer, and how much room there is for it.
+use super::copy::least;
+use model::sizes::LONGEST;
 ghost use mathlib.Core.Path.{_≡_};
-ghost use Prim.Native.Nat.{_+_, _-_};
-ghost use lib.Dec.{leb};
-ghost use Rattle.model.specs.Message.{roundedUp, cost};
+ghost use Prim.Native.Nat.{_-_};
+ghost use Rattle.model.specs.Code.{saturated};
+ghost use Rattle.model.specs.Message.{roundedUp, cost, room};
 
 // How many zeros follow a message of n bytes.
 pub(crate) fn padding(n: usize) -> usize
@@ -19,9 +21,16 @@ pub fn cost(n: u32) -> usize
     4 + length + padding(length)
 }
 
-// Whether a message of n bytes fits behind the bytes used of a buffer: the one place where this is asked.
-pub fn fits(used: u32, bufsz: u32, n: u32) -> bool
-    ensures { λ r. ⌜ r ≡ leb (used + cost n) bufsz ⌝ }
+// How many bytes are over, or lacking (below zero), for a message of n bytes behind those used of a buffer: the one place where this is asked.
+// Of words that no kernel made the number may need more than 32 bits: the answer is then the nearest, which has its sign.
+pub fn room(bufsz: u32, used: u32, n: u32) -> i32
+    ensures { λ r. ⌜ r ≡ saturated (room bufsz used n) ⌝ }
 {
-    used as usize + cost(n) <= bufsz as usize
+    let size = bufsz as usize;
+    let taken = cost(n);
+    let need = used as usize + taken;
+    if need <= size {
+        return least(size - need, LONGEST as usize) as i32;
+    }
+    -1 - least(need - size - 1, LONGEST as usize) as i32
 }

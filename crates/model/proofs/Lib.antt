@@ -2,6 +2,7 @@ pub mod Terms
 pub mod ListLaws
 pub mod FlagLaws
 pub mod NumberLaws
+pub mod IntegerLaws
 pub mod Table
 pub mod Loops
 pub mod ByCase

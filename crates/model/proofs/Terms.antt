@@ -17,7 +17,7 @@ pub use lib.Dec.{eqb, leb, ltb}
 pub use borrow.Author.Tests.{eq-eqb, ne-eqb, eqb-true, eqb-false, le-leb, lt-leb, leb-true, leb-false, lt-ltb, le-ltb, ltb-true, ltb-false, not-true, not-false}
 pub use Rattle.model.specs.Sizes.{tasks, priorities, mutexes, buffers, pools, messageBytes, regionBytes, blocks, blockBytes, poolBytes, storeBytes, outboxBytes, logBytes, scriptBytes, longest, endless}
 pub use Rattle.model.specs.Lists.{_!_, countFrom, upTo, zeros, padded, joined, sum, keep, select, all, any, placeWhere, firstWhere, member, without, headOf, occurrences, same, allZero, implies, within}
-pub use Rattle.model.specs.Code.{minus, E-OK, E-SYS, E-RSATR, E-PAR, E-ID, E-CTX, E-ILUSE, E-NOMEM, E-LIMIT, E-OBJ, E-NOEXS, E-TMOUT, E-DLT, lowByte, bytes4, number4, signed, bits, codeBytes, number}
+pub use Rattle.model.specs.Code.{minus, E-OK, E-SYS, E-RSATR, E-PAR, E-ID, E-CTX, E-ILUSE, E-NOMEM, E-LIMIT, E-OBJ, E-NOEXS, E-TMOUT, E-DLT, lowByte, bytes4, number4, signed, bits, saturated, codeBytes, number}
 pub use Rattle.model.specs.Facts.{absent, dormant, ready, locking, sending, receiving, getting, Queue, queue, readyQueue, Facts, inherits, ceilinged}
 unfoldable pub use Rattle.model.specs.Priority.{linked, holderAwaited, ownPriority, effective, effectives}
 pub use Rattle.model.specs.Priority.{Linked, mostUrgent}
@@ -27,7 +27,7 @@ unfoldable pub use Rattle.model.specs.Kernel.{withTasks, withArrivals, w
 pub use Rattle.model.specs.Kernel.{Tasks, Mutexes, Buffers, Pools, Kernel, slot, freshTasks, noMutexes, noBuffers, noPools, numbered}
 unfoldable pub use Rattle.model.specs.World.{withKernel, withStore, withOutbox, withEnded, queueOrder, queueFront, headsQueue, running, recompute}
 pub use Rattle.model.specs.World.{Lent, Delivery, Ended, World, begun, lentOf, Nothing, Message, Block}
-unfoldable pub use Rattle.model.specs.Message.{handed, over, overwritten, cost, packed, appended, oldestLength, oldest, removed, part, withPart, region, withRegion, outboxMessage, withOutboxMessage}
+unfoldable pub use Rattle.model.specs.Message.{handed, over, overwritten, cost, room, packed, appended, oldestLength, oldest, removed, part, withPart, region, withRegion, outboxMessage, withOutboxMessage}
 pub use Rattle.model.specs.Message.{roundedUp}
 unfoldable pub use Rattle.model.specs.Act.{arrive, recomputeIf, settled, wait, leaveKernel, leaveOutbox, leave, endWait, endWaits, release, releaseAll, becomeDormant, fits, storeMessage, sendersMessage, firstFits, storeFirst, drain, unused}
 pub use Rattle.model.specs.Act.{millis, serve}

@@ -4,14 +4,15 @@ use mathlib.Core.Bool.{Bool, true, false, _&&_, not, cond}
 use mathlib.Core.List.{List, [], foldl}
 use lib.ListN.{length}
 use lib.IntN.{ℤ, pos, negsuc}
-use lib.Dec.{eqb, leb}
+use lib.Signed.{nonNeg}
+use lib.Dec.{eqb}
 use Rattle.model.specs.Sizes.{tasks, mutexes, buffers, endless}
 use Rattle.model.specs.Lists.{_!_, upTo, firstWhere}
 use Rattle.model.specs.Code.{E-OK}
 use Rattle.model.specs.Facts.{Queue, queue, readyQueue, dormant, locking, sending}
 use Rattle.model.specs.Kernel.{Kernel, withArrivals, withPlace, withObject, withArgument, withBase, withLeft, withHolder, withUsed, departed, arrived}
 use Rattle.model.specs.World.{World, Delivery, Nothing, withKernel, withStore, withOutbox, withEnded, queueFront, recompute}
-use Rattle.model.specs.Message.{cost, appended, region, withRegion, outboxMessage, withOutboxMessage}
+use Rattle.model.specs.Message.{cost, room, appended, region, withRegion, outboxMessage, withOutboxMessage}
 
 -- A task arrives in a queue: last, and taken from where it stood.
 unfoldable pub arrive : Kernel → ℕ → Queue → Kernel
@@ -76,9 +77,9 @@ becomeDormant w t =
     let k = withPlace (withArrivals (v .kernel) (departed t (v .kernel .arrivals))) t dormant in
     releaseAll (settled (withKernel v (withBase k t (k .tasks .initial ! t)))) t
 
--- whether a message of n bytes fits behind the bytes used: "at most bufsz in all"
+-- "at most bufsz in all": a message of n bytes fits where its room is not negative
 unfoldable pub fits : Kernel → ℕ → ℕ → Bool
-fits k b n = leb (k .buffers .used ! b + cost n) (k .buffers .bufsz ! b)
+fits k b n = nonNeg (room (k .buffers .bufsz ! b) (k .buffers .used ! b) n)
 
 -- a message is stored behind the others of its buffer
 unfoldable pub storeMessage : World → ℕ → List ℕ → World

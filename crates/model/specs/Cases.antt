@@ -1,6 +1,6 @@
--- 01, "On both sides of the mark": every bullet that has a [P], whole, and beside them a case for sentences that no bullet holds, and both sides of 02's requests Two and Five, as
--- one table under one statement, proved by computing.
-use Prim.Native.Nat.{ℕ, suc, pred}
+-- 01, "On both sides of the mark": every bullet that has a [P], whole, and beside them a case for sentences that no bullet holds, and both sides of 02's requests Two, Five and Nine, as
+-- one table under one statement, proved by computing; and the numbers of request Nine, a table of their own.
+use Prim.Native.Nat.{ℕ, suc, pred, _+_, _-_, _^_}
 use mathlib.Core.Path.{_≡_, refl}
 use mathlib.Core.Bool.{true}
 use mathlib.Core.List.{List, [], _∷_, _++_, map, foldl}
@@ -12,11 +12,11 @@ use Rattle.model.specs.declared.call.Answer.{Answer}
 use Rattle.model.specs.declared.call.Answer.the-variants.{Code, Waits}
 use Rattle.model.specs.Sizes.{messageBytes, storeBytes, outboxBytes}
 use Rattle.model.specs.Lists.{_!_, upTo, zeros}
-use Rattle.model.specs.Code.{minus, E-OK, E-SYS, E-PAR, E-NOEXS, E-ILUSE, E-TMOUT, E-DLT, number}
+use Rattle.model.specs.Code.{minus, E-OK, E-SYS, E-PAR, E-NOEXS, E-ILUSE, E-TMOUT, E-DLT, saturated, number}
 use Rattle.model.specs.Facts.{queue, locking}
 use Rattle.model.specs.Kernel.{fresh}
 use Rattle.model.specs.World.{Lent, Delivery, Nothing, Message, Block, queueFront, running}
-use Rattle.model.specs.Message.{part}
+use Rattle.model.specs.Message.{part, room}
 use Rattle.model.specs.Record.{fieldsOf}
 use Rattle.model.specs.Valid.{valid}
 use Rattle.model.specs.Step.{Outcome, step, freshLent}
@@ -274,6 +274,90 @@ dirtyMissing = sendOf (7 ∷ 7 ∷ []) 2 1 (Code E-PAR) 0
 dirtyNumberless : Case
 dirtyNumberless = sendOf (7 ∷ 7 ∷ []) 5 1 (Code E-PAR) 0
 
+-- ---- 02, request Nine: "how many bytes are over, or lacking (below zero), as one signed number, zero for an exact fit"
+
+-- bufsz, the bytes used, the length of a message; its room
+abbrev pub rooms : List (ℕ × ℕ × ℕ × ℤ)
+rooms =
+    (0, 0, 1, minus 8) ∷ (0, 0, 4, minus 8) ∷ (0, 0, 5, minus 12) ∷ (0, 0, 32, minus 36)
+    ∷ (7, 0, 4, minus 1) ∷ (8, 0, 4, pos 0) ∷ (9, 0, 4, pos 1)
+    ∷ (11, 0, 5, minus 1) ∷ (12, 0, 5, pos 0) ∷ (13, 0, 5, pos 1)
+    ∷ (31, 0, 28, minus 1) ∷ (32, 0, 28, pos 0) ∷ (33, 0, 28, pos 1)
+    ∷ (35, 0, 28, pos 3) ∷ (35, 0, 29, minus 1) ∷ (35, 0, 32, minus 1)
+    ∷ (36, 0, 28, pos 4) ∷ (36, 0, 29, pos 0) ∷ (36, 0, 32, pos 0)
+    ∷ (37, 0, 28, pos 5) ∷ (37, 0, 29, pos 1) ∷ (37, 0, 32, pos 1)
+    ∷ (256, 0, 32, pos 220) ∷ (256, 224, 28, pos 0) ∷ (256, 224, 29, minus 4) ∷ (256, 252, 32, minus 32) ∷ (256, 256, 1, minus 8)
+    ∷ (256, 219, 32, pos 1) ∷ (256, 220, 32, pos 0) ∷ (256, 221, 32, minus 1)
+    ∷ []
+
+abbrev pub RoomsHold : Type 0
+RoomsHold = map (λ r. room (r .0) (r .1) (r .2)) rooms ≡ map (λ r. r .3) rooms
+
+-- the nearest to the largest number of 32 bits and to the least, to one more and to one less
+abbrev pub EndsHold : Type 0
+EndsHold =
+    map saturated (pos (2 ^ 31 - 1) ∷ minus (2 ^ 31) ∷ pos (2 ^ 31) ∷ minus (2 ^ 31 + 1) ∷ [])
+    ≡ pos (2 ^ 31 - 1) ∷ minus (2 ^ 31) ∷ pos (2 ^ 31 - 1) ∷ minus (2 ^ 31) ∷ []
+
+-- Buffer 1 has bufsz bytes. Messages of these lengths are stored; then one of n bytes is sent that must not wait. Its answer is seen, and what is used then.
+abbrev sendInto : ℕ → List ℕ → ℕ → Answer → ℕ → Case
+sendInto bufsz lengths n answer u =
+    case (CreMbf (pos 0) (pos bufsz) (pos 32) ∷ map (λ l. SndMbf (pos 1) (pos l) forever) lengths ++ SndMbf (pos 1) (pos n) (pos 0) ∷ [])
+    (used 1 ∷ []) (seen (new 1 ∷ map (λ l. OK) lengths ++ answer ∷ []) [] [] (u ∷ []))
+
+-- a byte is lacking, it fits exactly, a byte is over; 28 bytes cost 32, and 29 cost 36
+oneLacking28 : Case
+oneLacking28 = sendInto 31 [] 28 (Code E-TMOUT) 0
+
+exactly28 : Case
+exactly28 = sendInto 32 [] 28 OK 32
+
+oneOver28 : Case
+oneOver28 = sendInto 33 [] 28 OK 32
+
+oneLacking29 : Case
+oneLacking29 = sendInto 35 [] 29 (Code E-TMOUT) 0
+
+exactly29 : Case
+exactly29 = sendInto 36 [] 29 OK 36
+
+oneOver29 : Case
+oneOver29 = sendInto 37 [] 29 OK 36
+
+-- bufsz 35 has bytes over for 28, bufsz 0 lacks some for any
+threeOver : Case
+threeOver = sendInto 35 [] 28 OK 32
+
+noRoom : Case
+noRoom = sendInto 0 [] 1 (Code E-TMOUT) 0
+
+-- seven of 28 leave 32 of bufsz 256: 28 fit exactly, for 29 four are lacking; of 255 one is lacking for 28
+abbrev sevenOf28 : List ℕ
+sevenOf28 = 28 ∷ 28 ∷ 28 ∷ 28 ∷ 28 ∷ 28 ∷ 28 ∷ []
+
+lastExactly : Case
+lastExactly = sendInto 256 sevenOf28 28 OK 256
+
+lastLacking : Case
+lastLacking = sendInto 256 sevenOf28 29 (Code E-TMOUT) 224
+
+lastByteLacking : Case
+lastByteLacking = sendInto 255 sevenOf28 28 (Code E-TMOUT) 224
+
+-- "the look at the end of each call ask[s] it too": a byte is stored, and task 1 waits with 29; once task 2 has received the byte, a byte is lacking, or it
+-- fits exactly and is stored
+abbrev lookedAt : ℕ → List (ℕ × ℤ) → ℕ → Case
+lookedAt bufsz ended u =
+    case
+    (second ++ CreMbf (pos 0) (pos bufsz) (pos 32) ∷ SndMbf (pos 1) (pos 1) forever ∷ SndMbf (pos 1) (pos 29) forever ∷ RcvMbf (pos 1) forever ∷ [])
+    (used 1 ∷ []) (seen (new 2 ∷ OK ∷ new 1 ∷ OK ∷ Waits ∷ new 1 ∷ []) ended ((2, message 1) ∷ []) (u ∷ []))
+
+stillLacking : Case
+stillLacking = lookedAt 35 [] 0
+
+nowExactly : Case
+nowExactly = lookedAt 36 ((1, E-OK) ∷ []) 36
+
 -- ---- inheritance
 
 -- Mutexes 1 and 2 of attribute 2. Task 1 is B (8); task 2 is A (12), which locks mutex 1 while task 1 waits a millisecond; task 3 is C.
@@ -512,6 +596,19 @@ table =
     ∷ tooLongMissing
     ∷ dirtyMissing
     ∷ dirtyNumberless
+    ∷ oneLacking28
+    ∷ exactly28
+    ∷ oneOver28
+    ∷ oneLacking29
+    ∷ exactly29
+    ∷ oneOver29
+    ∷ threeOver
+    ∷ noRoom
+    ∷ lastExactly
+    ∷ lastLacking
+    ∷ lastByteLacking
+    ∷ stillLacking
+    ∷ nowExactly
     ∷ chainRaises
     ∷ chainLowers
     ∷ circleStands
@@ -649,6 +746,58 @@ dirtyNumberless-holds : observed dirtyNumberless ≡ dirtyNumberless .seen
 unfolding compute observed dirtyNumberless
 dirtyNumberless-holds = refl
 
+oneLacking28-holds : observed oneLacking28 ≡ oneLacking28 .seen
+unfolding compute observed oneLacking28
+oneLacking28-holds = refl
+
+exactly28-holds : observed exactly28 ≡ exactly28 .seen
+unfolding compute observed exactly28
+exactly28-holds = refl
+
+oneOver28-holds : observed oneOver28 ≡ oneOver28 .seen
+unfolding compute observed oneOver28
+oneOver28-holds = refl
+
+oneLacking29-holds : observed oneLacking29 ≡ oneLacking29 .seen
+unfolding compute observed oneLacking29
+oneLacking29-holds = refl
+
+exactly29-holds : observed exactly29 ≡ exactly29 .seen
+unfolding compute observed exactly29
+exactly29-holds = refl
+
+oneOver29-holds : observed oneOver29 ≡ oneOver29 .seen
+unfolding compute observed oneOver29
+oneOver29-holds = refl
+
+threeOver-holds : observed threeOver ≡ threeOver .seen
+unfolding compute observed threeOver
+threeOver-holds = refl
+
+noRoom-holds : observed noRoom ≡ noRoom .seen
+unfolding compute observed noRoom
+noRoom-holds = refl
+
+lastExactly-holds : observed lastExactly ≡ lastExactly .seen
+unfolding compute observed lastExactly
+lastExactly-holds = refl
+
+lastLacking-holds : observed lastLacking ≡ lastLacking .seen
+unfolding compute observed lastLacking
+lastLacking-holds = refl
+
+lastByteLacking-holds : observed lastByteLacking ≡ lastByteLacking .seen
+unfolding compute observed lastByteLacking
+lastByteLacking-holds = refl
+
+stillLacking-holds : observed stillLacking ≡ stillLacking .seen
+unfolding compute observed stillLacking
+stillLacking-holds = refl
+
+nowExactly-holds : observed nowExactly ≡ nowExactly .seen
+unfolding compute observed nowExactly
+nowExactly-holds = refl
+
 chainRaises-holds : observed chainRaises ≡ chainRaises .seen
 unfolding compute observed chainRaises
 chainRaises-holds = refl
@@ -760,7 +909,14 @@ storeOf-holds = (refl, (refl, (refl, tt)))
 pub cases : AllHold table
 unfolding table
 cases =
-    (noMessage-holds, (oneByte-holds, (eighthWaits-holds, (tooSmall-holds, (justFits-holds, (oldestFirst-holds, (handedOver-holds, (fewBytes-holds, (longestMessage-holds, (timeouts-holds, (ceilings-holds, (noPassing-holds, (lastDrained-holds, (senderDeleted-holds, (nextDirty-holds, (lastDirty-holds, (dirtyBehind31-holds, (cleanTail-holds, (noTail-holds, (beyondMessage-holds, (tooLong-holds, (tooLongClean-holds, (tooLongMissing-holds, (dirtyMissing-holds, (dirtyNumberless-holds, (chainRaises-holds, (chainLowers-holds, (circleStands-holds, (circleRaises-holds, (circleLowers-holds, (notRaised-holds, (initialAgain-holds, (equalAfterwards-holds, (keptUp-holds, (raisedExactly-holds, (keptUpAfterwards-holds, (keptUpLowered-holds, (holderLowered-holds, (ceilingKeepsUp-holds, (ceilingExactly-holds, (poolKeptUp-holds, (poolExactly-holds, (poolNotRaised-holds, (arrivalKeptUp-holds, (arrivalExactly-holds, (arrivalNotRaised-holds, (senderKeptUp-holds, (senderExactly-holds, (circleKeepsUp-holds, (circleExactly-holds, (notHeld-holds, storeOf-holds)))))))))))))))))))))))))))))))))))))))))))))))))))
+    (noMessage-holds, (oneByte-holds, (eighthWaits-holds, (tooSmall-holds, (justFits-holds, (oldestFirst-holds, (handedOver-holds, (fewBytes-holds, (longestMessage-holds, (timeouts-holds, (ceilings-holds, (noPassing-holds, (lastDrained-holds, (senderDeleted-holds, (nextDirty-holds, (lastDirty-holds, (dirtyBehind31-holds, (cleanTail-holds, (noTail-holds, (beyondMessage-holds, (tooLong-holds, (tooLongClean-holds, (tooLongMissing-holds, (dirtyMissing-holds, (dirtyNumberless-holds, (oneLacking28-holds, (exactly28-holds, (oneOver28-holds, (oneLacking29-holds, (exactly29-holds, (oneOver29-holds, (threeOver-holds, (noRoom-holds, (lastExactly-holds, (lastLacking-holds, (lastByteLacking-holds, (stillLacking-holds, (nowExactly-holds, (chainRaises-holds, (chainLowers-holds, (circleStands-holds, (circleRaises-holds, (circleLowers-holds, (notRaised-holds, (initialAgain-holds, (equalAfterwards-holds, (keptUp-holds, (raisedExactly-holds, (keptUpAfterwards-holds, (keptUpLowered-holds, (holderLowered-holds, (ceilingKeepsUp-holds, (ceilingExactly-holds, (poolKeptUp-holds, (poolExactly-holds, (poolNotRaised-holds, (arrivalKeptUp-holds, (arrivalExactly-holds, (arrivalNotRaised-holds, (senderKeptUp-holds, (senderExactly-holds, (circleKeepsUp-holds, (circleExactly-holds, (notHeld-holds, storeOf-holds))))))))))))))))))))))))))))))))))))))))))))))))))))))))))))))))
+
+pub rooms-hold : RoomsHold
+unfolding compute
+rooms-hold = refl
+
+pub ends-hold : EndsHold
+ends-hold = refl
 
 -- the fresh state is valid
 pub fresh-valid : valid freshLent ≡ true

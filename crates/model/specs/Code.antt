@@ -1,9 +1,10 @@
 -- Answers as numbers: the standard's main error codes, and the bytes of a signed field.
-use Prim.Native.Nat.{ℕ, zero, suc, _+_, _*_, _-_, _/_, _%_, _^_}
+use Prim.Native.Nat.{ℕ, zero, suc, _+_, _*_, _-_, _/_, _%_, _^_, min}
 use mathlib.Core.Bool.{cond}
 use mathlib.Core.List.{List, [], _∷_}
 use lib.IntN.{ℤ, pos, negsuc}
 use lib.Dec.{ltb}
+use Rattle.model.specs.Sizes.{longest}
 
 -- the number below zero
 abbrev pub minus : ℕ → ℤ
@@ -68,6 +69,12 @@ signed n = cond (ltb n (2 ^ 31)) (pos n) (minus (2 ^ 32 - n))
 abbrev pub bits : ℤ → ℕ
 bits (pos n) = n
 bits (negsuc n) = 2 ^ 32 - suc n
+
+-- the nearest signed number of 32 bits, of a number that they need not hold: "An answer that these papers leave free is named in the contract, with what
+-- holds of it."
+abbrev pub saturated : ℤ → ℤ
+saturated (pos n) = pos (min n longest)
+saturated (negsuc n) = negsuc (min n longest)
 
 abbrev pub codeBytes : ℤ → List ℕ
 codeBytes c = bytes4 (bits c)

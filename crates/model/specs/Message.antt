@@ -2,6 +2,7 @@
 use Prim.Native.Nat.{ℕ, pred, _+_, _*_, _-_, _/_, min}
 use mathlib.Core.List.{List, _++_}
 use lib.ListN.{length, take, drop}
+use lib.IntN.{ℤ, pos, _-ℤ_}
 use Rattle.model.specs.Sizes.{regionBytes, messageBytes}
 use Rattle.model.specs.Lists.{_!_, zeros, padded}
 use Rattle.model.specs.Code.{bytes4, number4}
@@ -23,6 +24,11 @@ roundedUp n = (n + 3) / 4 * 4
 
 unfoldable pub cost : ℕ → ℕ
 cost n = 4 + roundedUp n
+
+-- 02, request Nine: "by the message's cost, how many bytes are over, or lacking (below zero), as one signed number, zero for an exact fit": of a buffer of
+-- bufsz bytes, of which some are used, for a message of n bytes
+unfoldable pub room : ℕ → ℕ → ℕ → ℤ
+room bufsz used n = pos bufsz -ℤ pos used -ℤ pos (cost n)
 
 -- "packed: length (4 bytes), bytes, zeros"
 unfoldable pub packed : List ℕ → List ℕ
@@ -65,6 +71,6 @@ withOutboxMessage t outbox m = withPart messageBytes t outbox (padded messageByt
 
 -- what has to unfold for the definitions of this file to compute
 unfoldable pub computeMessage : Unit {0}
-unfolding handed over overwritten cost packed appended oldestLength oldest removed part withPart region withRegion outboxMessage
+unfolding handed over overwritten cost room packed appended oldestLength oldest removed part withPart region withRegion outboxMessage
     withOutboxMessage
 computeMessage = tt

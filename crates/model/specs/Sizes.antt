@@ -55,7 +55,7 @@ logBytes = 512
 abbrev pub scriptBytes : ℕ
 scriptBytes = 16384
 
--- the most milliseconds that a timeout can ask for, and the word of the state that stands for a wait without end
+-- the largest signed number of 32 bits, the most milliseconds that a timeout can ask for; and the word of the state that stands for a wait without end
 abbrev pub longest : ℕ
 longest = 2 ^ 31 - 1
 

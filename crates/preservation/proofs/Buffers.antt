@@ -1,6 +1,6 @@
 -- The calls on message buffers keep what holds between acts.
 use mathlib.Core.Logic.{⊎-elim}
-use Rattle.model.proofs.Terms.{mag, _^_, _<_, ℕ, zero, suc, _*_, _-_, _≤_, ℕ-discrete, arith, _≡_, _∙_, refl, sym, ap, subst, _≢_, inl, inr, Bool, true, false, false≢true, List, [], _∷_, _++_, map, length, take, set-getD, length-replicate, ℤ, pos, negsuc, leZ, ne-eqb, eqb-false, leb-true, tasks, buffers, messageBytes, regionBytes, _!_, zeros, sum, joined, E-OK, E-DLT, number, queue, readyQueue, ready, sending, receiving, Kernel, Buffers, withBuffers, withBufferExists, withBufferAttribute, withBufsz, withMaxmsz, withUsed, World, Delivery, Nothing, withKernel, queueOrder, queueFront, headsQueue, running, handed, cost, packed, withRegion, millis, endWait, endWaits, fits, unused, bufferAttributes, storable, sendWaits, receiveWaits, nobodyRuns, badAttribute, badField, badNumber, badTimeout, noSuch, noTime, noneFree, creMbfRefusals, deletionRefusals, sndMbfRefusals, rcvMbfRefusals, refusals, creMbf, delMbf, sndMbf, takeOldest, rcvMbf, perform, fieldsOf, Each, From, Layout}
+use Rattle.model.proofs.Terms.{mag, _^_, _<_, ℕ, zero, suc, _*_, _-_, _≤_, ℕ-discrete, arith, _≡_, _∙_, refl, sym, ap, subst, _≢_, inl, inr, Bool, true, false, false≢true, List, [], _∷_, _++_, map, length, take, set-getD, length-replicate, ℤ, pos, negsuc, leZ, ne-eqb, eqb-false, tasks, buffers, messageBytes, regionBytes, _!_, zeros, sum, joined, E-OK, E-DLT, number, queue, readyQueue, ready, sending, receiving, Kernel, Buffers, withBuffers, withBufferExists, withBufferAttribute, withBufsz, withMaxmsz, withUsed, World, Delivery, Nothing, withKernel, queueOrder, queueFront, headsQueue, running, handed, cost, packed, withRegion, millis, endWait, endWaits, fits, unused, bufferAttributes, storable, sendWaits, receiveWaits, nobodyRuns, badAttribute, badField, badNumber, badTimeout, noSuch, noTime, noneFree, creMbfRefusals, deletionRefusals, sndMbfRefusals, rcvMbfRefusals, refusals, creMbf, delMbf, sndMbf, takeOldest, rcvMbf, perform, fieldsOf, Each, From, Layout}
 use Rattle.model.specs.declared.call.Call.the-variants.{CreMbf, DelMbf, SndMbf, RcvMbf}
 use mathlib.Core.Bool.{and-eq-true-iff}
 use Rattle.model.proofs.ListLaws.{member-left, member-right}
@@ -11,6 +11,7 @@ use Rattle.message.proofs.Kept.{layout-clear, layout-remove}
 use Rattle.message.proofs.Packing.{length-removed}
 use Rattle.message.proofs.Parts.{length-handed}
 use Rattle.message.proofs.Regions.{cost-above}
+use Rattle.message.proofs.RoomLaws.{fits-within}
 use Rattle.queue.proofs.Members.{Stood, front-stood, running-stood, nobody-there}
 use Rattle.invariant.specs.Rows.{BufferRow, withBufferRow, openWorld}
 use Rattle.invariant.specs.Invariant.{Lasting, Steady}
@@ -106,10 +107,10 @@ module _ {w : World} (s : Steady 0 w) (b : ℕ) (low : 1 ≤ b) (high : b ≤ bu
 
   module _ (m : List ℕ) (sized : From 1 (now .buffers .maxmsz ! b) (length m)) (time : Timed (sendWaits now b (length m)) timeout) where
     sent : Dec (queueFront now (queue receiving b) ≡ 0) → (x : Bool) → storable now b (length m) ≡ x → Steady 0 (sndMbf w b m timeout .world)
-    unfolding sendWaits storable fits
+    unfolding sendWaits storable
     sent (no n) x e = rw (send-over w b m timeout refl n) (served receiving (omega arith) n _ _)
     sent (yes z) true e =
-        let room = leb-true _ _ (and-eq-true-iff (headsQueue now (queue sending b) t) (fits now b (length m)) .0 e .1) in
+        let room = fits-within now b (length m) (and-eq-true-iff (headsQueue now (queue sending b) t) (fits now b (length m)) .0 e .1) in
         rw (send-stored w b m timeout z e) (stored s b low high m there sized room (nobody receiving (omega arith) z))
     sent (yes z) false e =
         let known = buffer-there (s .invariant) b low high there in

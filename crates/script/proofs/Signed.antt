@@ -1,7 +1,7 @@
 -- Signed numbers of 32 bits: as the machine has them, and the definition's `signed` and `bits`, which are inverse to each other.
 -- Assumes nothing.
-use Prim.Native.Nat.{ℕ, zero, suc, _-_, _^_, _≤_, _<_}
-use native.Mathlib.Nat.{zero-add, not-suc-le-zero}
+use Prim.Native.Nat.{ℕ, suc, _-_, _^_, _≤_, _<_}
+use native.Mathlib.Nat.{not-suc-le-zero}
 use native.Mathlib.Omega.{arith}
 use mathlib.Core.Path.{_≡_, _∙_, refl, ap}
 use mathlib.Core.List.{List}
@@ -22,11 +22,7 @@ read-back z h = toZ-ofZ {w = w32} {z = z} (record { sfits = h })
 pub bytes-of : (z : ℤ) (bytes : List ℕ) → mag z < 2 ^ 31 → bytes ≡ codeBytes (toZ w32 (ofZ w32 z)) → bytes ≡ codeBytes z
 bytes-of z bytes h e = e ∙ ap codeBytes (read-back z h)
 
--- -1 - m, for m from 0 on and below it
-pub less-than-minus-one : (m : ℕ) → negsuc 0 -ℤ pos m ≡ negsuc m
-less-than-minus-one zero = refl
-less-than-minus-one (suc m) = ap (λ k. negsuc (suc k)) (zero-add m)
-
+-- -1 - z, for z below 0
 pub from-minus-one : (z : ℤ) → ltZ z (pos 0) ≡ true → negsuc 0 -ℤ z ≡ pos (mag z)
 from-minus-one (pos n) e = absurd (not-suc-le-zero (ltb-true n 0 e))
 from-minus-one (negsuc n) e = rw (le-ltb (suc n) 1 (omega arith)) (ap pos (omega arith))

@@ -1,5 +1,5 @@
 // Senders: whether there are any, and the first of a buffer whose message fits.
-use message::room::fits;
+use message::room::room;
 use model::number::BufferNumber;
 use model::number::MaybeTask;
 use model::number::TaskNumber;
@@ -54,8 +54,8 @@ pub fn first_fitting(state: &[u32], b: BufferNumber) -> MaybeTask
     let used = state::buffer::used(state, b);
     let bufsz = state::buffer::bufsz(state, b);
     let length = state::task::argument(state, t);
-    if fits(used, bufsz, length) {
-        return found;
+    if room(bufsz, used, length) < 0 {
+        return MaybeTask::Nothing;
     }
-    MaybeTask::Nothing
+    found
 }

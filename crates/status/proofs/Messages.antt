@@ -1,10 +1,11 @@
--- The next message of a buffer, of which a row shows the length. Assumes nothing.
+-- The next message of a buffer, of which a row shows the length, and the room for one of maxmsz bytes. Assumes nothing.
 use mir.Syntax.{w32}
 use mir.Val.{Fits}
-use Rattle.model.proofs.Terms.{ℕ, suc, _≤_, _<_, arith, _≡_, inl, inr, true, List, length, length-take, length-drop, pos, le-ltb, buffers, regionBytes, _!_, Kernel, Lent, oldest, part, region, outboxMessage, badNumber, noSuch, BufferRange, valid, Valid}
+use Rattle.model.proofs.Terms.{ℕ, suc, _≤_, _<_, arith, _≡_, inl, inr, true, List, length, length-take, length-drop, pos, le-ltb, buffers, regionBytes, _!_, saturated, Kernel, Lent, room, oldest, part, region, outboxMessage, badNumber, noSuch, BufferRange, valid, Valid}
 use Rattle.message.specs.NextMessage.{messageAt, located, hasBuffer, nextLocation, nextMessage}
 use Rattle.message.specs.declared.next.Location.{Location}
 use Rattle.message.specs.declared.next.Location.the-variants.{Stored, Sent, Nowhere}
+use Rattle.message.proofs.RoomLaws.{room-is-exact}
 use Rattle.status.specs.Rows.{isThere}
 
 -- ---- a message by where it lies
@@ -36,3 +37,11 @@ module _ (x : Lent) (i : ℕ) (inside : i < buffers) where
   pub used-inside : Valid x → x .kernel .buffers .used ! suc i ≤ x .kernel .buffers .bufsz ! suc i
   unfolding BufferRange
   used-inside v = elim (v .isBufferRange (suc i) (omega arith) inside) [ inl h ↦ omega (arith, h .4) | inr h ↦ h .4 ]
+
+  -- 32 bits hold the room for a message of maxmsz bytes
+  pub room-shown : Valid x → let k = x .kernel .buffers in
+      saturated (room (k .bufsz ! suc i) (k .used ! suc i) (k .maxmsz ! suc i)) ≡ room (k .bufsz ! suc i) (k .used ! suc i) (k .maxmsz ! suc i)
+  unfolding BufferRange
+  room-shown v =
+      room-is-exact x v (suc i) (omega arith) inside (x .kernel .buffers .maxmsz ! suc i)
+      (elim (v .isBufferRange (suc i) (omega arith) inside) [ inl h ↦ omega (arith, h .3) | inr h ↦ h .3 .1 ])

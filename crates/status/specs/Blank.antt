@@ -1,4 +1,4 @@
--- The blank rows of a table that is lent to be filled: the largest word in every field, -1 for the time left. No row that a board call writes is one: what
+-- The blank rows of a table that is lent to be filled: the largest word in every field, -1 in those with a sign. No row that a board call writes is one: what
 -- is to be proved of that, as a type; `proofs/Blanks` proves it.
 use Prim.Native.Nat.{ℕ}
 use mathlib.Core.Logic.{_≢_}
@@ -23,7 +23,7 @@ abbrev pub blankMutex : MutexRow
 blankMutex = record { holder = largestWord; waiter = largestWord }
 
 abbrev pub blankBuffer : BufferRow
-blankBuffer = record { free = largestWord; next = largestWord; receiver = largestWord; sender = largestWord }
+blankBuffer = record { free = largestWord; room = minus 1; next = largestWord; receiver = largestWord; sender = largestWord }
 
 abbrev pub blankPool : PoolRow
 blankPool = record { free = largestWord; waiter = largestWord }

@@ -13,6 +13,7 @@ use Rattle.model.specs.Code.{minus}
 use Rattle.model.specs.Facts.{queue, dormant, ready, locking, sending, receiving, getting}
 use Rattle.model.specs.Kernel.{Kernel}
 use Rattle.model.specs.World.{Lent, running, queueFront}
+use Rattle.model.specs.Message.{room}
 use Rattle.model.specs.Lent.{isValid}
 use Rattle.message.specs.NextMessage.{nextMessage}
 use Rattle.pool_account.specs.Statements.{free}
@@ -68,12 +69,14 @@ taskRow k t =
 unfoldable pub mutexRow : Kernel → ℕ → MutexRow
 mutexRow k m = record { holder = k .mutexes .holder ! m; waiter = queueFront k (queue locking m) }
 
--- "buffers (free bytes, length of the next message as 01 shows it, first waiters, 0 for none)"
+-- "buffers (free bytes, length of the next message as 01 shows it, first waiters, 0 for none)"; 02, request Nine, "the board gains that number for a message
+-- of maxmsz bytes"
 unfoldable pub bufferRow : Lent → ℕ → BufferRow
 bufferRow x b =
     let k = x .kernel in
     record {
       free = k .buffers .bufsz ! b - k .buffers .used ! b;
+      room = room (k .buffers .bufsz ! b) (k .buffers .used ! b) (k .buffers .maxmsz ! b);
       next = length (nextMessage x (pos b));
       receiver = queueFront k (queue receiving b);
       sender = queueFront k (queue sending b);

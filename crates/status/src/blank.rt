@@ -34,6 +34,7 @@ pub fn blank_buffer() -> BufferRow
 {
     BufferRow {
         free: LARGEST_WORD,
+        room: -1,
         next: LARGEST_WORD,
         receiver: LARGEST_WORD,
         sender: LARGEST_WORD,

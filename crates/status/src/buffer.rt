@@ -3,6 +3,7 @@ use super::row::BufferRow;
 use super::waiter::first_of;
 use message::next::Location;
 use message::outbox::outbox_message;
+use message::room::room;
 use message::store::store_oldest;
 use model::number::BufferNumber;
 use model::number::MaybeBuffer;
@@ -52,13 +53,17 @@ pub fn row(state: &[u32], store: &[u8], outbox: &[u8], i: usize) -> BufferRow
     let MaybeBuffer::Buffer(b) = found else {
         return BufferRow {
             free: 0,
+            room: 0,
             next: 0,
             receiver: 0,
             sender: 0,
         };
     };
+    let bufsz = state::buffer::bufsz(state, b);
+    let used = state::buffer::used(state, b);
     BufferRow {
-        free: state::buffer::bufsz(state, b) - state::buffer::used(state, b),
+        free: bufsz - used,
+        room: room(bufsz, used, state::buffer::maxmsz(state, b)),
         next: next_length(state, store, outbox, b),
         receiver: first_of(state, RECEIVING, b.word()),
         sender: first_of(state, SENDING, b.word()),

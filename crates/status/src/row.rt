@@ -19,10 +19,12 @@ pub struct MutexRow {
     pub waiter: u32,
 }
 
-// A buffer's: the bytes that are free, the length of the next message, and who waits first to receive and to send.
+// A buffer's: the bytes that are free; of a message of maxmsz bytes, how many of them it would leave over, or how many it lacks (below zero); the length of
+// the next message; and who waits first to receive and to send.
 #[repr(C)]
 pub struct BufferRow {
     pub free: u32,
+    pub room: i32,
     pub next: u32,
     pub receiver: u32,
     pub sender: u32,

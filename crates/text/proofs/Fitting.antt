@@ -76,7 +76,7 @@ pub decimal-short : (n : ℕ) → length (decimal n) ≤ 20
 unfolding decimal
 decimal-short n = digits-short 20 n
 
-signed-short : (z : ℤ) → length (signedDecimal z) ≤ 21
+pub signed-short : (z : ℤ) → length (signedDecimal z) ≤ 21
 unfolding signedDecimal
 signed-short (pos n) = omega (arith, decimal-short n)
 signed-short (negsuc n) = omega (arith, decimal-short (suc n))

@@ -7,7 +7,6 @@ use mathlib.Core.Bool.{true, false, cond, not, and-eq-true-iff}
 use mathlib.Core.List.{List}
 use lib.ListN.{length, length-take}
 use lib.Dec.{eqb}
-use borrow.Author.Tests.{leb-true, le-leb}
 use Rattle.model.specs.Sizes.{tasks, buffers}
 use Rattle.model.specs.Lists.{_!_, upTo}
 use Rattle.model.specs.Code.{E-OK}
@@ -28,6 +27,7 @@ use Rattle.model.specs.Act.{fits, firstFits, storeMessage, sendersMessage, stor
 use Rattle.model.specs.Words.{kernel}
 use Rattle.model.proofs.NumberLaws.{bufferKind, named, never-unnamed}
 use Rattle.model.proofs.ByCase.{serve-more, serve-stop}
+use Rattle.message.proofs.RoomLaws.{fits-within, within-fits}
 use Rattle.search.proofs.Senders.{first-some}
 use Rattle.act.specs.Held.{areas, Does, DoesInStore, DoesInLog}
 use Rattle.act.proofs.Doing.{world, does}
@@ -45,12 +45,11 @@ first-sender k b f-is e = let r = first-some k b f-is e in record { fits = r .0;
 module _ (s o : List ℕ) {b t n : ℕ} {m : List ℕ} (q : FirstSender (kernel s) b t) (n-is : n ≡ kernel s .tasks .argument ! t) (m-is : m ≡ outboxMessage t n o) where
   -- no more than was asked for lies in the outbox
   pub sender-fits : fits (kernel s) b (length m) ≡ true
-  unfolding firstFits fits outboxMessage cost
+  unfolding firstFits outboxMessage cost
   sender-fits =
-      let h : kernel s .buffers .used ! b + cost n ≤ kernel s .buffers .bufsz ! b =
-      leb-true _ _ (rw (← q .first, ← n-is) at (and-eq-true-iff (not (eqb (queueFront (kernel s) (queue sending b)) 0)) _ .0 (q .fits) .1)) in
+      let h = fits-within (kernel s) b n (rw (← q .first, ← n-is) at (and-eq-true-iff (not (eqb (queueFront (kernel s) (queue sending b)) 0)) _ .0 (q .fits) .1)) in
       let l : length m ≤ n = rw m-is (simp length-take (min-le-left n _)) in
-      le-leb (kernel s .buffers .used ! b + cost (length m)) (kernel s .buffers .bufsz ! b) (omega arith)
+      within-fits (kernel s) b (length m) (omega arith)
 
   pub stores-first : {st s1 st1 l s' o' l' : List ℕ} {at next : ℕ} → DoesInStore (λ w. storeMessage w b m) s st s1 st1
       → DoesInLog (λ w. endWait w t E-OK Nothing) s1 o l at s' o' l' next → Does (λ w. storeFirst w b) (areas s st o l) at (areas s' st1 o' l') next

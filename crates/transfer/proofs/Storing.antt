@@ -9,7 +9,6 @@ use lib.Seq.{take-length}
 use lib.Dec.{ltb}
 use mir.Syntax.{w32}
 use mir.Val.{Fits}
-use borrow.Author.Tests.{leb-true}
 use Rattle.model.specs.Lists.{_!_}
 use Rattle.model.specs.Field as field
 use Rattle.model.specs.Kernel.{withUsed}
@@ -19,6 +18,7 @@ use Rattle.model.specs.Act.{fits, storeMessage}
 use Rattle.model.specs.Effect.{takeOldest}
 use Rattle.model.specs.Words.{sizes, fromFields, kernel}
 use Rattle.model.proofs.ListLaws.{either}
+use Rattle.message.proofs.RoomLaws.{fits-within}
 use Rattle.state.specs.Words.{Represents}
 use Rattle.state.proofs.LayoutLaws.{read}
 use Rattle.act.specs.Held.{DoesInStore}
@@ -32,8 +32,7 @@ module _ (s : List ℕ) (b : ℕ) (words : (i : ℕ) → Fits w32 (s ! i)) where
 
   module _ (n : ℕ) (e : fits (kernel s) b n ≡ true) where
     pub used-word : {used c : ℕ} → used ≡ kernel s .buffers .used ! b → c ≡ cost n → Fits w32 (used + c)
-    unfolding fits
-    used-word u f = record { fits = omega (arith, leb-true (kernel s .buffers .used ! b + cost n) (kernel s .buffers .bufsz ! b) e, bufsz-word .fits) }
+    used-word u f = record { fits = omega (arith, fits-within (kernel s) b n e, bufsz-word .fits) }
 
     pub length-word : Fits w32 n
     length-word = let l : n ≤ cost n = unfold cost in omega arith in record { fits = omega (arith, used-word refl refl .fits) }

@@ -1,5 +1,6 @@
 -- `storable` meets its contract. Assumes nothing.
-use borrow.Author.Needs.{needs}
+use mir.Facts.{toZ-ofZ}
+use borrow.Author.Needs.{needs, sfits-of}
 use Rattle.buffer.proofs.Sending.{storable-behind, storable-first}
 use Rattle.buffer.proofs.send.storable.Statement.{statement}
 use Rattle.buffer.proofs.send.storable.Tie as tie
@@ -13,7 +14,7 @@ returns-2 c =
     let u = c .before .before in
     let a = u .before .before in
     storable-first _ _ _ (a .before .before .before .pre .1) (a .before .word .ensures) (a .would-head .ensures) (u .before .if1 .left) (u .used .ensures)
-    (c .before .bufsz .ensures) (c .fits2 .ensures)
+    (c .before .bufsz .ensures) (c .room .ensures) (toZ-ofZ (sfits-of (c .room .ok)))
 
 pub storable-spec : {M : Type 1} → statement M
 storable-spec =
