@@ -108,8 +108,8 @@ uint32_t shinepod_next_message(const uint32_t *state, size_t state_words, const 
                                const uint8_t *outbox, size_t outbox_bytes, ID buffer, size_t *at, size_t *size);
 
 /*
- * Whether the areas have their lengths and what they hold is valid: what document 01 calls sound. The fresh kernel is, and every call keeps
- * it so. That calls lead there from the fresh kernel is not asked. Nothing is changed.
+ * Whether the areas have their lengths and what they hold is valid: what document 01 calls sound, with what document 02 adds to it. The fresh kernel
+ * is, and every call keeps it so. That calls lead there from the fresh kernel is not asked. Nothing is changed.
  */
 bool shinepod_is_valid(const uint32_t *state, size_t state_words, const uint8_t *store, size_t store_bytes, const uint8_t *outbox,
                        size_t outbox_bytes);

@@ -21,7 +21,7 @@ use model::number::TaskNumber;
 ghost use mathlib.Core.Path.{_≡_};
 ghost use lib.ListN.{length};
 ghost use Rattle.model.specs.Sizes.{tasks};
-ghost use Rattle.model.specs.Valid.{Arrivals, Priorities};
+ghost use Rattle.model.specs.Valid.{Arrivals, Priorities, Bitmap};
 ghost use Rattle.model.specs.Words.{wordCount, kernel};
 ghost use Rattle.order.specs.Order.{Tasks};
 
@@ -49,6 +49,7 @@ pub extern "C" fn timing_release(state: &mut [u32], outbox: &mut [u8], log: &mut
 pub extern "C" fn timing_release_settled(state: &mut [u32], outbox: &mut [u8], log: &mut [u8], at: usize, m: u32) -> usize
     requires { ⌜ length (now state) ≡ wordCount ⌝ }
     requires { ⌜ Priorities (kernel (now state)) ⌝ }
+    requires { ⌜ Bitmap (kernel (now state)) ⌝ }
     requires { ⌜ Arrivals (kernel (now state)) ⌝ }
 {
     match MutexNumber::from_word(m) {

@@ -27,7 +27,8 @@ ghost use mathlib.Core.Path.{_≡_};
 ghost use lib.ListN.{length};
 ghost use Rattle.model.specs.Sizes.{tasks};
 ghost use Rattle.model.specs.Number.{maybeTask, wordNumber};
-ghost use Rattle.model.specs.Words.{wordCount};
+ghost use Rattle.model.specs.Valid.{Bitmap};
+ghost use Rattle.model.specs.Words.{wordCount, kernel};
 ghost use Rattle.act.specs.Held.{areas};
 ghost use Rattle.call.specs.Steps.{Ready};
 
@@ -86,6 +87,7 @@ pub extern "C" fn timing_drain(state: &mut [u32], store: &mut [u8], outbox: &mut
 #[no_mangle]
 pub extern "C" fn timing_next_to_run(state: &[u32]) -> u32
     requires { ⌜ length (now state) ≡ wordCount ⌝ }
+    requires { ⌜ Bitmap (kernel (now state)) ⌝ }
 {
     let runs = next_to_run(state);
     runs.byte() as u32

@@ -2,7 +2,8 @@
 """time_recompute.py [CALLS BATCHES RUNS]: processor time of `priority::recompute` against the same job in plain Rust, in busy states.
 
 Without numbers, 2,000 calls to a batch, 101 batches, 3 runs. The plain programs work out own priorities first and then go through
-tasks and chain steps in a double loop; one asks every mutex for every task, the other goes through the mutexes once. First all three
+tasks and chain steps in a double loop; one asks every mutex for every task, the other goes through the mutexes once. Both then work out the
+bits of the priorities with a ready task. First all three
 are run on 2,000,000 random states, half of them garbage, and must leave the same words."""
 import sys
 
@@ -82,7 +83,7 @@ fn by_mutex(s: &mut State) {
     along_chains(s, &own)
 }
 
-/// The double loop over tasks and chain steps.
+/// The double loop over tasks and chain steps, and the bits.
 #[inline(always)]
 fn along_chains(s: &mut State, own: &[u32; PER_TASK]) {
     s[at::CURRENT..at::CURRENT + PER_TASK].copy_from_slice(own);
@@ -96,6 +97,20 @@ fn along_chains(s: &mut State, own: &[u32; PER_TASK]) {
             s[at::CURRENT + y] = s[at::CURRENT + y].min(own[x]);
         }
     }
+    s[at::BITMAP] = bits(s);
+}
+
+/// A bit for each priority with a ready task.
+#[inline(always)]
+fn bits(s: &State) -> u32 {
+    let mut bits = 0;
+    for t in 1..=TASKS {
+        let p = s[at::CURRENT + t];
+        if s[at::PLACE + t] == READY && (1..=u32::from(PRIORITIES)).contains(&p) {
+            bits |= 1 << (p - 1);
+        }
+    }
+    bits
 }
 
 /// The holder of the inheritance mutex that a task waits for, 0 for none.

@@ -4,7 +4,7 @@ use reference::lent_state::State;
 use reference::limits::*;
 use reference::random::Random;
 use reference::record::{self, KINDS};
-use reference::words::WORDS;
+use reference::words::{at, WORDS};
 use reference::{next_message, run_record, states, Answer, Kernel};
 use shinepod::numbers::{ANSWERED, IN_OUTBOX, IN_STORE, NOWHERE, OVER, UNKNOWN_KIND};
 use shinepod::raw::Shown;
@@ -33,6 +33,7 @@ pub struct Counts {
     pub well: u64,
     pub waits: u64,
     pub lengths: u64,
+    pub wrong_bits: u64,
     pub shown: u64,
     /// Those of scripts, too.
     pub boards: board::Counts,
@@ -70,7 +71,37 @@ fn on_state(state: &State, log: &[u8], random: &mut Random, counts: &mut Counts)
     if lengths {
         all_lengths(state, log, random, counts)?;
     }
+    if valid && random.percent(10) {
+        all_wrong_bits(state, log, random, counts)?;
+    }
     Ok(())
+}
+
+/// A valid state with each bit of the bitmap flipped alone.
+fn all_wrong_bits(state: &State, log: &[u8], random: &mut Random, counts: &mut Counts) -> Compared {
+    (0..u32::BITS).try_for_each(|bit| {
+        with_wrong_bit(state, log, bit, random, counts)
+            .map_err(|what| format!("with bit {bit} of the bitmap flipped: {what}"))
+    })
+}
+
+fn with_wrong_bit(
+    state: &State,
+    log: &[u8],
+    bit: u32,
+    random: &mut Random,
+    counts: &mut Counts,
+) -> Compared {
+    let mut state = state.clone();
+    state.words[at::BITMAP] ^= 1 << bit;
+    let lent = Lent::new(&state, log);
+    let mut case = Case { lent, state: &state, log, random, counts };
+    case.counts.wrong_bits += 1;
+    if case.check()? {
+        return Err(case.report("", "both programs take a wrong bit for right".into()));
+    }
+    let row = case.random.below(KINDS.len());
+    case.one(row, 10)
 }
 
 /// Every area with every length, the others as they are, and all with any.

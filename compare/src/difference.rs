@@ -18,7 +18,7 @@ pub struct Expected<'a> {
 pub type Compared = Result<(), String>;
 
 /// The lists of a state's words, by where they begin.
-const LISTS: [(usize, &str); 22] = [
+const LISTS: [(usize, &str); 23] = [
     (at::PLACE, "place of task"),
     (at::OBJECT, "object of task"),
     (at::ARGUMENT, "argument of task"),
@@ -27,6 +27,7 @@ const LISTS: [(usize, &str); 22] = [
     (at::CURRENT, "current priority of task"),
     (at::LEFT, "milliseconds left of task"),
     (at::ARRIVALS, "arrival"),
+    (at::BITMAP, "bitmap word"),
     (at::MUTEX_EXISTS, "existence of mutex"),
     (at::MUTEX_ATTRIBUTE, "attribute of mutex"),
     (at::CEILING, "ceiling of mutex"),

@@ -68,7 +68,7 @@ fn line(done: &Done, start: Instant) -> String {
     let boards = &counts.boards;
     format!(
         "{} s: {} scripts, {} records; {} lent states, {} valid; {} calls on them, {} went well, {} wait; \
-         {} times other lengths; {} messages shown; {} boards, {} written with {} rows, {} refused with -5, {} with -17",
+         {} times other lengths, {} times a wrong bit; {} messages shown; {} boards, {} written with {} rows, {} refused with -5, {} with -17",
         start.elapsed().as_secs(),
         done.scripts,
         done.records,
@@ -78,6 +78,7 @@ fn line(done: &Done, start: Instant) -> String {
         counts.well,
         counts.waits,
         counts.lengths,
+        counts.wrong_bits,
         counts.shown,
         boards.boards,
         boards.written,

@@ -58,6 +58,7 @@ pub(crate) fn alter(clause: Clause, state: &mut State, random: &mut Random) -> O
         ArrivalNumber | ArrivalStarted | ArrivalOnce | ArrivalEach | ArrivalZeros => {
             return alter_arrivals(clause, state, random)
         }
+        Bitmap => alter_bitmap(state, random),
         MutexExists | MutexAttribute | MutexCeiling | MutexNoCeiling | MutexHolder
         | DormantHolder => return alter_mutex(clause, state, random),
         BaseAboveHeld | BaseAboveAwaited | OwnMutex | FreeMutex => {
@@ -143,6 +144,7 @@ fn alter_task(clause: Clause, state: &mut State, random: &mut Random) -> Option<
             state.set(at::CURRENT, t, if random.percent(60) { near } else { other });
         }
     }
+    state.settle_bitmap();
     Some(())
 }
 
@@ -210,6 +212,39 @@ fn alter_arrivals(clause: Clause, state: &mut State, random: &mut Random) -> Opt
     }
     state.words[at::ARRIVALS..][..TASKS].copy_from_slice(&arrivals[..TASKS]);
     Some(())
+}
+
+/// One bit, several, any word, or the bits that a mistake gives.
+fn alter_bitmap(state: &mut State, random: &mut Random) {
+    let right = state.words[at::BITMAP];
+    let every = (1 << PRIORITIES) - 1;
+    let moved = [right << 1, right >> 1, right << 16, right.reverse_bits()];
+    let set = random.any_of(0..32, |bit| right >> bit & 1 == 1);
+    state.words[at::BITMAP] = match random.below(8) {
+        0 | 1 => right ^ 1 << random.below(32),
+        2 => right & !(1 << set.unwrap_or(0)),
+        3 => right ^ (random.word() & random.word() & random.word()) as u32,
+        4 => random.word() as u32,
+        5 => random.pick(&[0, every, !every, u32::MAX, right ^ every, !right]),
+        6 => random.pick(&moved),
+        _ => mistaken_bitmap(state, random),
+    };
+}
+
+/// The bits if bases counted for current priorities, or waiting or dormant tasks for ready ones.
+fn mistaken_bitmap(state: &State, random: &mut Random) -> u32 {
+    let mistake = random.below(3);
+    let mut mistaken = state.clone();
+    for t in 1..PER_TASK {
+        match mistake {
+            0 => mistaken.set(at::CURRENT, t, state.word(at::BASE, t)),
+            1 if state.is_waiting(t) => mistaken.set(at::PLACE, t, READY),
+            2 if state.word(at::PLACE, t) == DORMANT => mistaken.set(at::PLACE, t, READY),
+            _ => {}
+        }
+    }
+    mistaken.settle_bitmap();
+    mistaken.words[at::BITMAP]
 }
 
 fn alter_mutex(clause: Clause, state: &mut State, random: &mut Random) -> Option<()> {

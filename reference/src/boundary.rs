@@ -1,6 +1,6 @@
 //! The ends of the ranges that validity allows: what makes a valid state reach one.
 
-use crate::lent_state::{flags_at, make_wait, messages, State};
+use crate::lent_state::{flags_at, make_wait, messages, shuffle_arrivals, State};
 use crate::limits::*;
 use crate::random::Random;
 use crate::words::*;
@@ -20,6 +20,14 @@ pub enum Boundary {
     /// One byte more of room and the first sender's message would fit.
     SenderJustTooLong,
     EveryTask,
+    /// No task is ready.
+    BitmapNone,
+    /// The bit of the most urgent priority alone.
+    BitmapLowest,
+    /// The bit of the least urgent priority alone.
+    BitmapHighest,
+    /// Ready tasks of as many priorities as there can be.
+    BitmapMost,
     LastTaskHolds,
     MutexAttribute,
     CeilingFirst,
@@ -44,12 +52,12 @@ pub enum Boundary {
 
 use Boundary::*;
 
-pub const BOUNDARIES: [Boundary; 30] = [
+pub const BOUNDARIES: [Boundary; 34] = [
     InitialFirst, InitialLast, BaseFirst, BaseLast, LeftOne, LeftMost, LeftEndless, SenderShortest,
-    SenderLongest, SenderJustTooLong, EveryTask, LastTaskHolds, MutexAttribute, CeilingFirst,
-    CeilingLast, BaseAtHeld, BaseAtAwaited, BufszNone, BufszMost, BufferFull, MaxmszOne,
-    MaxmszMost, MaxmszStored, PoolAttribute, CountOne, CountMost, SizeOne, SizeMost, PoolSum,
-    LastBlock,
+    SenderLongest, SenderJustTooLong, EveryTask, BitmapNone, BitmapLowest, BitmapHighest,
+    BitmapMost, LastTaskHolds, MutexAttribute, CeilingFirst, CeilingLast, BaseAtHeld,
+    BaseAtAwaited, BufszNone, BufszMost, BufferFull, MaxmszOne, MaxmszMost, MaxmszStored,
+    PoolAttribute, CountOne, CountMost, SizeOne, SizeMost, PoolSum, LastBlock,
 ];
 
 /// Makes the change; none if the state has nothing to make it on. It may leave the state not valid.
@@ -69,6 +77,9 @@ pub(crate) fn reach(boundary: Boundary, state: &mut State, random: &mut Random) 
             Some(())
         }
         SenderShortest | SenderLongest | SenderJustTooLong => reach_sender(boundary, state, random),
+        BitmapNone | BitmapLowest | BitmapHighest | BitmapMost => {
+            reach_bitmap(boundary, state, random)
+        }
         LastTaskHolds | MutexAttribute | CeilingFirst | CeilingLast | BaseAtHeld
         | BaseAtAwaited => reach_mutex(boundary, state, random),
         BufszNone | BufszMost | BufferFull | MaxmszOne | MaxmszMost | MaxmszStored => {
@@ -93,6 +104,7 @@ fn start(state: &mut State, random: &mut Random, t: usize) -> Option<()> {
     }
     state.set(at::PLACE, t, READY);
     state.set(at::ARRIVALS, end, t as u32);
+    state.settle_bitmap();
     Some(())
 }
 
@@ -139,6 +151,70 @@ fn reach_sender(boundary: Boundary, state: &mut State, random: &mut Random) -> O
             state.set(at::BUFSZ, b, bufsz);
         }
     }
+    Some(())
+}
+
+fn reach_bitmap(boundary: Boundary, state: &mut State, random: &mut Random) -> Option<()> {
+    let last = u32::from(PRIORITIES);
+    let few = 1 + random.below(3);
+    match boundary {
+        BitmapNone => leave_ready(state, random, 0, last)?,
+        BitmapLowest => leave_ready(state, random, few, 1)?,
+        BitmapHighest => leave_ready(state, random, few, last)?,
+        _ => make_all_ready(state, random)?,
+    }
+    let bits = state.words[at::BITMAP];
+    let reached = match boundary {
+        BitmapNone => bits == 0,
+        BitmapLowest => bits == 1,
+        BitmapHighest => bits == 1 << (last - 1),
+        _ => bits.count_ones() == last.min(TASKS as u32),
+    };
+    reached.then_some(())
+}
+
+fn ready(state: &State) -> Vec<usize> {
+    (1..PER_TASK).filter(|&t| state.word(at::PLACE, t) == READY).collect()
+}
+
+/// Makes ready tasks wait to receive until no more than these few are left, which get the base.
+fn leave_ready(state: &mut State, random: &mut Random, few: usize, base: u32) -> Option<()> {
+    while ready(state).len() > few {
+        let b = random.any_of(1..PER_BUFFER, |b| {
+            let (exists, used) = (state.word(at::BUFFER_EXISTS, b), state.word(at::USED, b));
+            (exists, used) == (1, 0) && !state.any(SENDING, b)
+        })?;
+        make_wait(state, random, RECEIVING, b)?;
+    }
+    for t in ready(state) {
+        state.set(at::BASE, t, base);
+    }
+    state.settle();
+    Some(())
+}
+
+/// Starts every task, ends every wait, and gives neighbours different bases.
+fn make_all_ready(state: &mut State, random: &mut Random) -> Option<()> {
+    let (first, priorities) = (random.below(TASKS), usize::from(PRIORITIES));
+    for t in 1..PER_TASK {
+        if !state.is_started(t) {
+            start(state, random, t)?;
+        }
+        state.set(at::PLACE, t, READY);
+        for list in [at::OBJECT, at::ARGUMENT, at::LEFT] {
+            state.set(list, t, 0);
+        }
+        state.set(at::BASE, t, 1 + ((first + t) % priorities) as u32);
+    }
+    // A ceiling that is held raises its holder.
+    for m in 1..PER_MUTEX {
+        if state.word(at::CEILING, m) != 0 {
+            state.set(at::HOLDER, m, 0);
+        }
+    }
+    state.outbox.fill(0);
+    shuffle_arrivals(state, random);
+    state.settle();
     Some(())
 }
 

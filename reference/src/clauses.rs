@@ -9,7 +9,7 @@ use crate::limits::*;
 use crate::valid::{is_priority, Lent};
 use crate::words::*;
 
-/// A clause of 01's paragraph "Sound".
+/// A clause of 01's paragraph "Sound", or what 02 adds to it.
 #[derive(Clone, Copy, PartialEq, Eq, PartialOrd, Ord, Hash, Debug)]
 pub enum Clause {
     // An area not exactly STORE or OUTBOX bytes, and a state of another length.
@@ -77,6 +77,8 @@ pub enum Clause {
     DormantHolder,
     /// "priorities [..] as worked out afresh"
     PriorityAfresh,
+    /// "the bits as worked out afresh": of the places and current priorities that stand there.
+    Bitmap,
     // "no base above a held or awaited ceiling"
     BaseAboveHeld,
     BaseAboveAwaited,
@@ -102,7 +104,7 @@ use Clause::*;
 type Holds = fn(&Lent) -> bool;
 
 /// Every clause that is about contents, and how it is told.
-const CONTENTS: [(Clause, Holds); 56] = [
+const CONTENTS: [(Clause, Holds); 57] = [
     (TaskEntryZero, |s| s.task_lists().iter().all(|list| list[0] == 0)),
     (MutexEntryZero, |s| s.mutex_lists().iter().all(|list| list[0] == 0)),
     (BufferEntryZero, |s| s.buffer_lists().iter().all(|list| list[0] == 0)),
@@ -157,6 +159,7 @@ const CONTENTS: [(Clause, Holds); 56] = [
         let afresh = s.priorities_from_bases();
         s.live().all(|t| s.current[t] == afresh[t])
     }),
+    (Bitmap, |s| s.bitmap == s.bits_of_ready_tasks()),
     (BaseAboveHeld, |s| s.mutexes().all(|m| s.held_by(m).is_none_or(|t| !s.is_above(t, m)))),
     (BaseAboveAwaited, |s| s.waiting().all(|t| s.mutex_of(t).is_none_or(|m| !s.is_above(t, m)))),
     (OwnMutex, |s| s.waiting().all(|t| s.mutex_of(t).is_none_or(|m| s.holder[m] != t as u32))),
@@ -225,6 +228,11 @@ pub fn failing(words: &[u32], store: &[u8], outbox: &[u8]) -> Vec<Clause> {
 /// The current priorities worked out afresh, by task; of absent tasks too. `words` has its length.
 pub fn afresh(words: &[u32]) -> [u32; PER_TASK] {
     Lent::new(words, &[], &[]).priorities_from_bases()
+}
+
+/// The bitmap worked out afresh, from any places and current priorities. `words` has its length.
+pub fn bitmap_afresh(words: &[u32]) -> u32 {
+    Lent::new(words, &[], &[]).bits_of_ready_tasks()
 }
 
 fn of_length<T: Copy + Default>(list: &[T], length: usize) -> Cow<'_, [T]> {
@@ -379,6 +387,15 @@ impl Lent<'_> {
             }
         }
         priorities
+    }
+
+    /// Priority by priority: its bit if a ready task has it. One that is out of range has no bit.
+    fn bits_of_ready_tasks(&self) -> u32 {
+        let is_ready =
+            |t: usize, priority: u32| self.place[t] == READY && self.current[t] == priority;
+        let has_ready = |&priority: &u32| (1..PER_TASK).any(|t| is_ready(t, priority));
+        let priorities = (1..=u32::from(PRIORITIES)).filter(has_ready);
+        priorities.map(|priority| 1u32 << (priority - 1)).sum()
     }
 
     // Buffers.

@@ -33,6 +33,7 @@ impl Kernel {
         for (i, t) in self.arrivals().into_iter().enumerate() {
             words[at::ARRIVALS + i] = u32::from(t.get());
         }
+        words[at::BITMAP] = self.bitmap();
         for m in MutexNo::all() {
             let n = usize::from(m.get());
             if let Some(mutex) = self.mutex(m) {
@@ -158,5 +159,17 @@ impl Kernel {
         let mut arrivals: Vec<TaskNo> = TaskNo::all().filter(started).collect();
         arrivals.sort_by_key(|&t| self.task(t).arrival);
         arrivals
+    }
+
+    /// The bit of each ready task's current priority. The kernel itself does without it.
+    fn bitmap(&self) -> u32 {
+        let mut bits = 0;
+        for t in TaskNo::all() {
+            let task = self.task(t);
+            if task.place == Place::Ready {
+                bits |= 1 << (task.current - 1);
+            }
+        }
+        bits
     }
 }

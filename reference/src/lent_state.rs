@@ -1,6 +1,6 @@
 //! One lent state with its areas, and how it can be altered.
 
-use crate::clauses::{afresh, failing, Clause};
+use crate::clauses::{afresh, bitmap_afresh, failing, Clause};
 use crate::kernel::Kernel;
 use crate::limits::*;
 use crate::random::Random;
@@ -56,7 +56,7 @@ impl State {
         self.words[list + number] = word;
     }
 
-    /// Puts the current priorities right, as far as bases and mutexes are.
+    /// Puts the current priorities right, as far as bases and mutexes are, and the bitmap by them.
     pub(crate) fn settle(&mut self) {
         let afresh = afresh(&self.words);
         for (t, &priority) in afresh.iter().enumerate().skip(1) {
@@ -64,6 +64,12 @@ impl State {
                 self.set(at::CURRENT, t, priority);
             }
         }
+        self.settle_bitmap();
+    }
+
+    /// Puts the bitmap right, as far as places and current priorities are.
+    pub(crate) fn settle_bitmap(&mut self) {
+        self.words[at::BITMAP] = bitmap_afresh(&self.words);
     }
 
     pub(crate) fn is_waiting(&self, t: usize) -> bool {
@@ -128,6 +134,7 @@ pub(crate) fn make_wait(
         state.set(at::ARGUMENT, t, length as u32);
         state.outbox[(t - 1) * MESSAGE..][..length].fill(random.word() as u8);
     }
+    state.settle_bitmap();
     Some(t)
 }
 

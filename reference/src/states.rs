@@ -64,6 +64,35 @@ pub fn state_at_boundary(boundary: Boundary, seed: u64, index: u64) -> State {
     at_boundary(boundary, &mut random)
 }
 
+/// A bit of the bitmap that is wrong: set though no ready task has its priority, or not set though
+/// one has.
+#[derive(Clone, Copy, PartialEq, Eq, Debug)]
+pub struct WrongBit {
+    pub bit: u32,
+    pub set: bool,
+}
+
+/// Every bit that can be wrong: each may be set, those of the priorities may be missing.
+pub fn wrong_bits() -> impl Iterator<Item = WrongBit> {
+    let set = (0..u32::BITS).map(|bit| WrongBit { bit, set: true });
+    let missing = (0..u32::from(PRIORITIES)).map(|bit| WrongBit { bit, set: false });
+    set.chain(missing)
+}
+
+/// State number `index` of a seed among those at which this bit alone is wrong.
+pub fn state_with_wrong_bit(wrong: WrongBit, seed: u64, index: u64) -> State {
+    let number = index * u64::from(u32::BITS) + u64::from(wrong.bit);
+    let mut random = Random::new(seed ^ number.wrapping_mul(0x8EBC_6AF0_9C88_C6E3));
+    random.word();
+    loop {
+        let mut state = busy(&mut random);
+        if (state.words[at::BITMAP] >> wrong.bit & 1 == 1) != wrong.set {
+            state.words[at::BITMAP] ^= 1 << wrong.bit;
+            return state;
+        }
+    }
+}
+
 /// A valid state with much going on: the busiest of a few along a script.
 pub fn busy(random: &mut Random) -> State {
     let script = generate(random.word(), random.word(), 10 * TASKS, &mut Tally::default());
@@ -128,9 +157,12 @@ fn changed(random: &mut Random) -> State {
             _ => change_word(&mut state, random),
         }
     }
-    // Bases and holders that were replaced change nothing but the priorities that follow.
-    if random.percent(35) {
-        state.settle();
+    // Bases and holders that were replaced change nothing but the priorities and bits that follow,
+    // places and priorities nothing but the bits.
+    match random.below(100) {
+        0..=34 => state.settle(),
+        35..=66 => state.settle_bitmap(),
+        _ => {}
     }
     match random.below(60) {
         0 => resize(&mut state.words, random),
@@ -153,7 +185,7 @@ fn any_byte(random: &mut Random, old: u8) -> u8 {
 /// Where each list begins, and where the last one ends.
 static LISTS: LazyLock<Vec<usize>> = LazyLock::new(|| {
     let mut lists = [&TASK_LISTS[..], &MUTEX_LISTS, &BUFFER_LISTS, &POOL_LISTS].concat();
-    lists.extend([at::ARRIVALS, at::FLAGS, at::END]);
+    lists.extend([at::ARRIVALS, at::BITMAP, at::FLAGS, at::END]);
     lists.sort_unstable();
     lists
 });

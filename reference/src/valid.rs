@@ -14,6 +14,7 @@ pub fn check(words: &[u32], store: &[u8], outbox: &[u8]) -> bool {
     lent.ranges()
         && lent.arrivals_in_order()
         && lent.priorities_afresh()
+        && lent.bitmap_afresh()
         && lent.mutexes_agree()
         && lent.buffers_agree()
         && lent.pools_agree()
@@ -30,6 +31,7 @@ pub(crate) struct Lent<'a> {
     pub(crate) current: &'a [u32],
     pub(crate) left: &'a [u32],
     pub(crate) arrivals: &'a [u32],
+    pub(crate) bitmap: u32,
     pub(crate) mutex_exists: &'a [u32],
     pub(crate) mutex_attribute: &'a [u32],
     pub(crate) ceiling: &'a [u32],
@@ -61,6 +63,7 @@ impl<'a> Lent<'a> {
             current: list(at::CURRENT, PER_TASK),
             left: list(at::LEFT, PER_TASK),
             arrivals: list(at::ARRIVALS, TASKS),
+            bitmap: words[at::BITMAP],
             mutex_exists: list(at::MUTEX_EXISTS, PER_MUTEX),
             mutex_attribute: list(at::MUTEX_ATTRIBUTE, PER_MUTEX),
             ceiling: list(at::CEILING, PER_MUTEX),
@@ -253,6 +256,12 @@ impl<'a> Lent<'a> {
             }
         }
         self.current == afresh
+    }
+
+    /// Task by task: a bit for the priority of each that is ready, and no other bit.
+    fn bitmap_afresh(&self) -> bool {
+        let ready = (1..PER_TASK).filter(|&t| self.place[t] == READY);
+        self.bitmap == ready.fold(0, |bits, t| bits | 1 << (self.current[t] - 1))
     }
 
     // Objects and those who wait for them.

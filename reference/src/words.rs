@@ -24,7 +24,10 @@ pub mod at {
 
     pub const ARRIVALS: usize = LEFT + PER_TASK;
 
-    pub const MUTEX_EXISTS: usize = ARRIVALS + TASKS;
+    /// One word: bit p - 1 is set exactly if a ready task has the current priority p.
+    pub const BITMAP: usize = ARRIVALS + TASKS;
+
+    pub const MUTEX_EXISTS: usize = BITMAP + 1;
     pub const MUTEX_ATTRIBUTE: usize = MUTEX_EXISTS + PER_MUTEX;
     pub const CEILING: usize = MUTEX_ATTRIBUTE + PER_MUTEX;
     pub const HOLDER: usize = CEILING + PER_MUTEX;
@@ -47,7 +50,9 @@ pub mod at {
 /// Words of a lent state.
 pub const WORDS: usize = at::END;
 
-/// The lists of each kind of object; arrivals and flags are apart.
+const _: () = assert!(PRIORITIES as u32 <= u32::BITS);
+
+/// The lists of each kind of object; arrivals, the bitmap and flags are apart.
 pub const TASK_LISTS: [usize; 7] =
     [at::PLACE, at::OBJECT, at::ARGUMENT, at::INITIAL, at::BASE, at::CURRENT, at::LEFT];
 pub const MUTEX_LISTS: [usize; 4] =

@@ -563,6 +563,8 @@ fn damaged_states_are_refused_first() {
         (at::CURRENT + 1, good.words[at::CURRENT + 1] - 1),
         (at::LEFT + 1, 1),
         (at::ARRIVALS, good.words[at::ARRIVALS + 1]),
+        (at::BITMAP, good.words[at::BITMAP] ^ 1),
+        (at::BITMAP, good.words[at::BITMAP] ^ 1 << 31),
         (at::HOLDER + 1, 0),
         (at::HOLDER + 1, TASKS as u32 + 1),
         (at::HOLDER + MUTEXES, 1),

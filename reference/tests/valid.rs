@@ -36,12 +36,14 @@ impl Lent {
         check(&self.words, &self.store, &self.outbox)
     }
 
-    /// Whether the state is still valid with some words changed.
+    /// Whether the state is still valid with some words changed and the bitmap put right, so that
+    /// it is another clause that decides.
     fn with(&self, changes: &[(usize, u32)]) -> bool {
         let mut other = self.clone();
         for &(at, word) in changes {
             other.words[at] = word;
         }
+        other.words[at::BITMAP] = bitmap_by_words(&other.words);
         other.valid()
     }
 
@@ -99,8 +101,9 @@ fn samples_are_valid() {
     assert!(sample().valid());
     // No task at all is valid too.
     assert!(check(&[0; WORDS], &[0; STORE], &[0; OUTBOX]));
-    // The lists and the arrivals of tasks, then the lists of mutexes, buffers and pools, the flags.
-    let tasks = TASK_LISTS.len() * (TASKS + 1) + TASKS;
+    // The lists and the arrivals of tasks, the bitmap, then the lists of mutexes, buffers and pools,
+    // the flags.
+    let tasks = TASK_LISTS.len() * (TASKS + 1) + TASKS + 1;
     let mutexes = MUTEX_LISTS.len() * (MUTEXES + 1);
     let buffers = BUFFER_LISTS.len() * (BUFFERS + 1);
     let pools = (POOL_LISTS.len() + BLOCKS + 1) * (POOLS + 1);
@@ -303,6 +306,16 @@ fn priorities_afresh() {
         for second in 1..=LEAST {
             assert_eq!(circle(first, second), (first, second) == (8, 8));
         }
+    }
+}
+
+#[test]
+fn bitmap() {
+    let mut sample = sample();
+    // Task 1 alone is ready, with the priority of task 3.
+    for word in 0..=1 << 16 {
+        sample.words[at::BITMAP] = word;
+        assert_eq!(sample.valid(), word == 8, "{word}");
     }
 }
 

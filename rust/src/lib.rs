@@ -95,8 +95,8 @@ pub fn next_message<'a>(
     Some(&area[shown.at..][..shown.size])
 }
 
-/// Whether the areas have their lengths and what they hold is valid: what document 01 calls sound. The fresh kernel is, and every call
-/// keeps it so. That calls lead there from the fresh kernel is not asked.
+/// Whether the areas have their lengths and what they hold is valid: what document 01 calls sound, with what document 02 adds to it. The fresh
+/// kernel is, and every call keeps it so. That calls lead there from the fresh kernel is not asked.
 pub fn is_valid(state: &[u32], store: &[u8], outbox: &[u8]) -> bool {
     raw::is_valid(state, store, outbox)
 }

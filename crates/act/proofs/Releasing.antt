@@ -20,15 +20,15 @@ use Rattle.model.specs.Facts.{queue, locking, ceilinged}
 use Rattle.model.specs.Kernel.{withHolder}
 use Rattle.model.specs.World.{Nothing, withKernel, queueFront, recompute}
 use Rattle.model.specs.Act.{settled, endWait, release, releaseAll}
-use Rattle.model.specs.Valid.{Arrivals, Priorities}
+use Rattle.model.specs.Valid.{Arrivals, Priorities, Bitmap}
 use Rattle.model.specs.Words.{wordCount, kernel}
 use Rattle.model.proofs.NumberLaws.{task-is, task-is-none, mutex-there}
 use Rattle.model.proofs.ByCase.{release-free, release-next}
 use Rattle.state.specs.Words.{Represents}
-use Rattle.state.proofs.WordLaws.{arrivals-long}
+use Rattle.state.proofs.WordLaws.{places-long, arrivals-long}
 use Rattle.queue.proofs.Listing.{listing-from}
 use Rattle.queue.proofs.Members.{nobody-there}
-use Rattle.priority.proofs.SettledLaws.{places-long, holder-settled}
+use Rattle.priority.proofs.SettledLaws.{holder-settled}
 use Rattle.act.specs.Held.{areas, DoesInLog}
 use Rattle.act.specs.Ends.{releaseHeld}
 use Rattle.act.proofs.Doing.{world, does, with-kernel}
@@ -46,12 +46,12 @@ module _ {m n : ℕ} {f : MaybeTask} {s s1 o log : List ℕ} {at : ℕ} (e : n �
       }
 
   -- no priority changes, where they are settled and all that wait are listed
-  pub releases-quiet : length s ≡ wordCount → Priorities (kernel s) → Arrivals (kernel s) → f ≡ NoTask → {a : ℕ} → a ≡ kernel s .mutexes .attribute ! m
+  pub releases-quiet : length s ≡ wordCount → Priorities (kernel s) → Bitmap (kernel s) → Arrivals (kernel s) → f ≡ NoTask → {a : ℕ} → a ≡ kernel s .mutexes .attribute ! m
       → a ≢ ceilinged → Represents s1 (withHolder (kernel s) m 0) → DoesInLog (λ w. release w m) s o log at s1 o log at
-  releases-quiet h settled arrivals g a-is d r =
+  releases-quiet h settled right arrivals g a-is d r =
       let listing = listing-from (kernel s) (places-long s h) (arrivals-long s h) arrivals in
       releases-free g r
-      (holder-settled s h settled m 0 a-is d (nobody-there (kernel s) listing (queue locking m) (omega arith) (rw e at (task-is-none _ (sym f-is ∙ g)))) r)
+      (holder-settled s h settled right m 0 a-is d (nobody-there (kernel s) listing (queue locking m) (omega arith) (rw e at (task-is-none _ (sym f-is ∙ g)))) r)
 
   pub releases-next : {t : TaskNumber} {u : ℕ} → f ≡ Task t → u ≡ t .0 → Represents s1 (withHolder (kernel s) m u)
       → {s' o' log' : List ℕ} {next : ℕ} → DoesInLog (λ w. endWait w (t .0) E-OK Nothing) s1 o log at s' o' log' next

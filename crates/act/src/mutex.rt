@@ -16,7 +16,7 @@ use state::task::LOCKING;
 ghost use mathlib.Core.Path.{_≡_};
 ghost use lib.ListN.{length};
 ghost use Rattle.model.specs.Sizes.{mutexes};
-ghost use Rattle.model.specs.Valid.{From, Arrivals, Priorities};
+ghost use Rattle.model.specs.Valid.{From, Arrivals, Priorities, Bitmap};
 ghost use Rattle.model.specs.Act.{release as released, releaseAll};
 ghost use Rattle.model.specs.Words.{wordCount, kernel};
 ghost use Rattle.act.specs.Held.{DoesInLog};
@@ -43,7 +43,7 @@ pub fn release(
     end_wait(state, outbox, log, at, t, E_OK)
 }
 
-// The same where priorities are settled: a mutex without a ceiling that nobody waits for becomes free, and no priority changes.
+// The same where priorities are settled and the bits go with them: a mutex without a ceiling that nobody waits for becomes free, and no priority changes.
 pub fn release_settled(
     state: &mut [u32],
     outbox: &mut [u8],
@@ -53,6 +53,7 @@ pub fn release_settled(
 ) -> usize
     requires { ⌜ length (now state) ≡ wordCount ⌝ }
     requires { ⌜ Priorities (kernel (now state)) ⌝ }
+    requires { ⌜ Bitmap (kernel (now state)) ⌝ }
     requires { ⌜ Arrivals (kernel (now state)) ⌝ }
     ensures { λ r. ⌜ DoesInLog (λ w. released w (m .0)) (now (state .entry)) (now (outbox .entry)) (now (log .entry)) at (now (state .exit)) (now (outbox .exit)) (now (log .exit)) r ⌝ }
 {

@@ -15,12 +15,13 @@ use Rattle.model.specs.Sizes.{logBytes}
 use Rattle.model.specs.Code.{E-SYS}
 use Rattle.model.specs.Number.{maybeTask}
 use Rattle.model.specs.World.{running}
-use Rattle.model.specs.Valid.{valid}
+use Rattle.model.specs.Valid.{Bitmap, valid}
 use Rattle.model.specs.Step.{refused}
 use Rattle.model.specs.Log.{answerBytes, deliveryBytes, runsBytes, outcomeLog}
 use Rattle.model.specs.Words.{wordCount, kernel}
 use Rattle.model.specs.Lent.{Areas, lent, isValid, withLog, untouched, notValid, lentStep}
 use Rattle.model.proofs.ByCase.{lent-untouched, lent-not-valid, lent-valid}
+use Rattle.valid.specs.Agree.{valid-agrees}
 use Rattle.script.proofs.Appending.{front}
 use Rattle.act.specs.Held.{areas}
 use Rattle.call.specs.declared.Called.{Called}
@@ -50,8 +51,11 @@ module _ (a : Areas) (c : Call) (bytes : List ℕ) where
       unfolding isValid
       parts = and-eq-true-iff _ _ .0 (sym v-is ∙ sound)
 
-      pub calls-words : length (a .words) ≡ wordCount
+      calls-words : length (a .words) ≡ wordCount
       calls-words = eqb-true _ _ (parts .0)
+
+      pub calls-bits : (length (a .words) ≡ wordCount) × Bitmap (kernel (a .words))
+      calls-bits = (calls-words, valid-agrees (lent (a .words) (a .store) (a .outbox)) .0 (parts .1) .isBitmap)
 
       pub calls-ready : {runs : MaybeTask} → runs ≡ maybeTask (running (kernel (a .words))) → Ready a runs
       calls-ready e = record { words = calls-words; log = size; sound = parts .1; runs = e }

@@ -17,12 +17,15 @@ use Rattle.model.specs.Refusal.{firstRefusal, refusals}
 use Rattle.model.specs.Effect.{perform, effect}
 use Rattle.model.specs.Step.{Outcome, refused, carriedOut, validStep}
 use Rattle.model.specs.Log.{answerBytes, deliveryBytes, runsBytes, outcomeLog}
-use Rattle.model.specs.Words.{kernel, words}
+use Rattle.model.specs.Valid.{Bitmap}
+use Rattle.model.specs.Words.{wordCount, kernel, words}
 use Rattle.model.specs.Lent.{Areas, lent, withLog, returned}
 use Rattle.model.proofs.ByCase.{step-refused, step-done, step-valid}
 use Rattle.state.proofs.WordLaws.{represented, words-kernel}
 use Rattle.script.specs.Place.{Appends, Wrote}
 use Rattle.script.proofs.Appending.{wrote, wrote-more, front}
+use Rattle.ready.proofs.KeptLaws.{calls-keep-bits}
+use Rattle.valid.specs.Agree.{valid-agrees}
 use Rattle.log_bound.proofs.Theorems.{record-log-fits}
 use Rattle.act.specs.Held.{endedLog, Does}
 use Rattle.reply.specs.declared.Reply.{Reply}
@@ -73,6 +76,14 @@ module _ (a : Areas) (c : Call) (bytes : List ℕ) {caller : MaybeTask} (ready :
       (rw (append-nil (answerBytes (Code e)), append-nil (answerBytes (Code e)))
       (subst (λ (t : ℕ). Wrote (a .log) 0 (answerBytes (Code e) ++ runsBytes t) l2 next)
       (ap taskWord (ready .runs) ∙ word-made (running (kernel (a .words)))) (wrote-more (wrote g) (wrote h))))
+
+  -- what is there once it is carried out: as many words, and the bits are right, so the next task can be looked for
+  pub step-bits : {r : Reply} {b d : Areas} {at : ℕ} → firstRefusal (refusals (kernel (a .words)) c bytes) ≡ none
+      → Carries (running (kernel (a .words))) (λ w. perform w c bytes) a 0 b r → Does drain b (r .next) d at → (length (d .words) ≡ wordCount) × Bitmap (kernel (d .words))
+  unfolding x effect
+  step-bits e f g =
+      let v = g .holds _ _ (f .holds) .state in
+      (v .length, subst Bitmap (sym (v .kernel)) (calls-keep-bits (begun x) c bytes (valid-agrees x .0 (ready .sound) .isBitmap) e))
 
   -- it is carried out: its own log, the drain's, and the task that runs then
   pub step-carries : {r : Reply} {b d : Areas} {at : ℕ} {runs : MaybeTask} {log : List ℕ} {next : ℕ} → firstRefusal (refusals (kernel (a .words)) c bytes) ≡ none

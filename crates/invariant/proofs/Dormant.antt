@@ -16,7 +16,7 @@ module _ {w : World} (s : Steady 0 w) (t : ℕ) (low : 1 ≤ t) (high : t ≤ ta
 
   -- from here on it may hold mutexes though it is dormant
   owned : Steady t w
-  owned = record { invariant = exiting-exchanged (s .invariant) t (λ m i j z n. s .invariant .ofMutexes .held m i j z z); priorities = s .priorities }
+  owned = record { invariant = exiting-exchanged (s .invariant) t (λ m i j z n. s .invariant .ofMutexes .held m i j z z); priorities = s .priorities; bitmap = s .bitmap }
 
   abbrev fallen : Kernel
   fallen = moved now t (queue dormant 0) 0 0 (departed t (now .arrivals))

@@ -1,5 +1,5 @@
 -- The drain: a first sender that fits is stored and leaves its queue, so the turns that a buffer has are enough, and no other buffer's first sender is touched.
-use Rattle.model.proofs.Terms.{ℕ, zero, suc, _+_, _≤_, _<_, ℕ-discrete, arith, _≡_, _∙_, refl, sym, ap, _≢_, Bool, true, false, not, List, foldl, length, getD-set-other, set-set, eqb, eqb-false, not-true, tasks, buffers, _!_, upTo, without, E-OK, queue, readyQueue, sending, receiving, Kernel, withBuffers, withArgument, withLeft, withUsed, facts, standsIn, byPriority, ordered, order, front, World, Nothing, queueOrder, queueFront, cost, arrive, recomputeIf, endWait, fits, storeMessage, sendersMessage, serve, firstFits, storeFirst, drain, Each, From}
+use Rattle.model.proofs.Terms.{ℕ, zero, suc, _+_, _≤_, _<_, ℕ-discrete, arith, _≡_, _∙_, refl, sym, ap, _≢_, Bool, true, false, not, List, foldl, length, getD-set-other, set-set, eqb, eqb-false, not-true, tasks, buffers, _!_, upTo, without, E-OK, queue, readyQueue, sending, receiving, Kernel, withBuffers, withArgument, withLeft, withUsed, facts, standsIn, readyAt, byPriority, ordered, order, front, World, Nothing, queueOrder, queueFront, cost, arrive, recomputeIf, endWait, fits, storeMessage, sendersMessage, serve, firstFits, storeFirst, drain, Each, From}
 use mathlib.Core.Bool.{and-eq-true-iff}
 use Rattle.model.proofs.ListLaws.{without-none, without-shorter}
 use Rattle.model.proofs.ByCase.{serve-more, serve-stop}
@@ -65,7 +65,7 @@ module _ {w : World} (s : Steady 0 w) (b t : ℕ) (low : 1 ≤ b) (high : b ≤ 
 
   -- the kernel after it: the last two no queue reads
   served-is : served .kernel ≡ withLeft (withArgument (arrive (withUsed k b (k .buffers .used ! b + cost (length message))) t readyQueue) t 0) t 0
-  unfolding storeMessage recomputeIf withUsed withBuffers openEnd
+  unfolding storeMessage recomputeIf readyAt facts withUsed withBuffers openEnd
   served-is = rw (f .stands .place, set-set (k .tasks .object) t 0 0)
 
   order-after : (c : ℕ) → queueOrder (served .kernel) (queue sending c) ≡ without t (queueOrder k (queue sending c))

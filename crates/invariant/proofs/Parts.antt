@@ -1,6 +1,6 @@
 -- What is left to show where one row of one kind is exchanged: the new row's own clauses, and what it means to those that look at it. All else stays.
 use mathlib.Core.Logic.{⊎-elim}
-use Rattle.model.proofs.Terms.{ℕ, zero, suc, _+_, _*_, _≤_, _<_, ℕ-discrete, arith, _≡_, _∙_, refl, sym, ap, subst, _≢_, _⊎_, List, map, length, set, getD-set-other, tasks, mutexes, buffers, pools, blocks, messageBytes, poolBytes, _!_, countFrom, upTo, sum, locking, sending, receiving, getting, Kernel, Pools, slot, withTasks, withArrivals, withMutexes, withBuffers, withPools, effectives, recompute, part, region, Each, From, TaskLists, Layout}
+use Rattle.model.proofs.Terms.{ℕ, zero, suc, _+_, _*_, _≤_, _<_, ℕ-discrete, arith, _≡_, _∙_, refl, sym, ap, subst, _≢_, _⊎_, List, map, length, set, getD-set-other, tasks, mutexes, buffers, pools, blocks, messageBytes, poolBytes, _!_, countFrom, upTo, sum, locking, sending, receiving, getting, Kernel, Pools, slot, withBitmap, withTasks, withArrivals, withMutexes, withBuffers, withPools, effectives, recompute, part, region, Each, From, TaskLists, Layout}
 use Rattle.model.proofs.ListLaws.{map-agree}
 use Rattle.queue.proofs.Listing.{Listing}
 use Rattle.invariant.specs.Rows.{TaskRow, MutexRow, BufferRow, PoolRow, taskRows, mutexRows, bufferRows, poolRows, withTaskRow, withMutexRow, withBufferRow, withPoolRow, openTasks}
@@ -45,6 +45,10 @@ module _ {exiting : ℕ} {k : Kernel} {store outbox : List ℕ} (v : Invariant e
       record { place = l .place; object = l .object; argument = l .argument; initial = l .initial; base = l .base; current = record { long = refl; noneZero = refl }; left = l .left } in
       let kept : TasksKept (recompute k .tasks) (k .arrivals) outbox = record { lists = lists; listing = x .listing; size = x .size; each = x .each } in
       record { ofTasks = kept; ofMutexes = v .ofMutexes; ofBuffers = v .ofBuffers; ofPools = v .ofPools }
+
+  -- other bits: nor at these
+  pub with-bits : (word : ℕ) → Invariant exiting (withBitmap k word) store outbox
+  with-bits word = record { ofTasks = v .ofTasks; ofMutexes = v .ofMutexes; ofBuffers = v .ofBuffers; ofPools = v .ofPools }
 
   -- another task is exiting, or none any more
   pub exiting-exchanged : (other : ℕ) → Each mutexes (λ m. HeldBy other rows (mutexRows (k .mutexes) m)) → Invariant other k store outbox

@@ -1,12 +1,13 @@
 -- A mutex is taken, given up, or passes to the first that waits; a task becomes dormant and gives up all that it holds.
 use mathlib.Core.Logic.{⊎-elim}
-use Rattle.model.proofs.Terms.{ℕ, suc, _≤_, _<_, ℕ-discrete, arith, _≡_, _∙_, refl, sym, ap, subst, _≢_, inr, cond, List, set, set-getD, getD-set-other, eqb, eq-eqb, ne-eqb, tasks, mutexes, priorities, _!_, E-OK, queue, readyQueue, dormant, ready, locking, Kernel, withMutexes, withHolder, arrived, World, Nothing, withKernel, queueFront, recompute, arrive, recomputeIf, settled, leaveKernel, leaveOutbox, leave, endWait, release, releaseAll, Each, Priorities}
+use Rattle.model.proofs.Terms.{ℕ, suc, _≤_, _<_, ℕ-discrete, arith, _≡_, _∙_, refl, sym, ap, subst, _≢_, inr, cond, List, set, set-getD, getD-set-other, eqb, eq-eqb, ne-eqb, tasks, mutexes, priorities, _!_, E-OK, queue, readyQueue, dormant, ready, locking, Kernel, withMutexes, withHolder, arrived, facts, readyAt, World, Nothing, withKernel, queueFront, recompute, arrive, recomputeIf, settled, leaveKernel, leaveOutbox, leave, endWait, release, releaseAll, Each, Priorities, Bitmap}
 use Rattle.model.proofs.ByCase.{recompute-only, release-free, release-next}
 use Rattle.queue.proofs.Members.{Stood, front-stood, nobody-there}
+use Rattle.ready.proofs.KeptLaws.{bits-recomputed}
 use Rattle.invariant.specs.Rows.{MutexRow, mutexRows, openTasks, openWorld, openEnd}
 use Rattle.invariant.specs.Invariant.{Under, Holding, Invariant, Steady}
 use Rattle.invariant.proofs.Exchange.{set-here}
-use Rattle.invariant.proofs.Parts.{recomputed, exiting-exchanged, mutex-exchanged}
+use Rattle.invariant.proofs.Parts.{recomputed, with-bits, exiting-exchanged, mutex-exchanged}
 use Rattle.invariant.proofs.Moves.{withRow, moved}
 use Rattle.model.proofs.Folds.{numbers-keep}
 use Rattle.invariant.proofs.Waits.{priorities-recomputed, steady-settled, ready-is, ready-again}
@@ -69,7 +70,7 @@ module _ {exiting : ℕ} {w : World} (s : Steady exiting w) (m : ℕ) (low : 1 �
         (λ u i j p o. ((λ (z : first ≡ 0). omega (arith, f .low)), λ e. omega (arith, sym place ∙ ap (λ (x : ℕ). set (k .tasks .place) first ready ! x) e ∙ p)))
 
     act-is : endWait (withKernel w (withHolder k m first)) first E-OK Nothing .kernel ≡ recompute (withHolder (arrive (leaveKernel k first) first readyQueue) m first)
-    unfolding recomputeIf withHolder withMutexes openEnd
+    unfolding recomputeIf readyAt facts withHolder withMutexes openEnd
     act-is = rw (f .place)
 
     passes : Steady exiting (endWait (withKernel w (withHolder k m first)) first E-OK Nothing)
@@ -77,8 +78,9 @@ module _ {exiting : ℕ} {w : World} (s : Steady exiting w) (m : ℕ) (low : 1 �
     passes =
         let e = act-is ∙ ap (λ (j : Kernel). recompute (withHolder j m first)) (ready-is k first) in
         record {
-          invariant = subst (λ (j : Kernel). Invariant exiting j (w .store) (leaveOutbox k (w .outbox) first)) (sym e) (recomputed passed);
+          invariant = subst (λ (j : Kernel). Invariant exiting j (w .store) (leaveOutbox k (w .outbox) first)) (sym e) (recomputed (with-bits passed _));
           priorities = subst Priorities (sym e) (priorities-recomputed _);
+          bitmap = subst Bitmap (sym e) (bits-recomputed _);
         }
 
   -- "the first waiter gets it"; without a waiter it is free
@@ -152,4 +154,5 @@ module _ (t : ℕ) (low : 1 ≤ t) where
       record {
         invariant = exiting-exchanged (g .steady .invariant) 0 (λ m i j z n. g .steady .invariant .ofMutexes .held m i j z (g .given m i (omega arith)));
         priorities = g .steady .priorities;
+        bitmap = g .steady .bitmap;
       }

@@ -1,6 +1,6 @@
 -- A buffer's messages change: one is stored behind the others, or the oldest is taken.
 use mathlib.Core.Logic.{⊎-elim}
-use Rattle.model.proofs.Terms.{ℕ, _+_, _*_, _≤_, arith, _≡_, _∙_, sym, subst, _≢_, inr, List, length, set-getD, tasks, buffers, messageBytes, regionBytes, _!_, receiving, Kernel, withBuffers, withUsed, facts, standsIn, World, cost, region, withRegion, storeMessage, Each, From, Layout, Priorities}
+use Rattle.model.proofs.Terms.{ℕ, _+_, _*_, _≤_, arith, _≡_, _∙_, sym, subst, _≢_, inr, List, length, set-getD, tasks, buffers, messageBytes, regionBytes, _!_, receiving, Kernel, withBuffers, withUsed, facts, standsIn, readyAt, readyBitmap, World, cost, region, withRegion, storeMessage, Each, From, Layout, Priorities, Bitmap}
 use Rattle.message.proofs.Areas.{length-withRegion, region-same, region-other}
 use Rattle.message.proofs.Packing.{length-appended}
 use Rattle.message.proofs.Parts.{region-size}
@@ -51,4 +51,5 @@ stored {exiting} {w} s b low high m there sized fits nobody =
       invariant =
           region-exchanged v b low high _ _ there fits (length-appended _ _ m ∙ region-long v b low high) (layout-append (v .ofBuffers .layout b low high) m sized (omega (arith, g .size))) nobody;
       priorities = (unfold Priorities facts standsIn withUsed withBuffers in s .priorities);
+      bitmap = (unfold Bitmap readyBitmap readyAt facts withUsed withBuffers in s .bitmap);
     }

@@ -1,19 +1,21 @@
 -- A wait begins, and a wait ends: what holds between acts holds after them.
-use Rattle.model.proofs.Terms.{ℕ, _*_, _-_, _≤_, _<_, ℕ-discrete, arith, _≡_, _∙_, refl, sym, ap, subst, _≢_, _⊎_, inl, inr, List, [], drop, length, set, set-getD, set-set, eq-eqb, ne-eqb, tasks, messageBytes, _!_, zeros, Queue, queue, readyQueue, dormant, ready, locking, sending, getting, Kernel, numbered, Buffers, Pools, withArgument, withLeft, arrived, facts, standsIn, holderAwaited, ownPriority, effective, effectives, Delivery, World, withKernel, withOutbox, recompute, settled, part, arrive, millis, wait, leaveKernel, leaveOutbox, leave, endWait, From, Priorities}
+use Rattle.model.proofs.Terms.{ℕ, _*_, _-_, _≤_, _<_, ℕ-discrete, arith, _≡_, _∙_, refl, sym, ap, subst, _≢_, _⊎_, inl, inr, List, [], drop, length, set, set-getD, set-set, eq-eqb, ne-eqb, tasks, messageBytes, _!_, zeros, Queue, queue, readyQueue, dormant, ready, locking, sending, getting, Kernel, numbered, Buffers, Pools, withArgument, withLeft, arrived, facts, standsIn, holderAwaited, ownPriority, effective, effectives, Delivery, World, withKernel, withOutbox, withFreshBit, recompute, settled, part, arrive, millis, wait, leaveKernel, leaveOutbox, leave, endWait, From, Priorities, Bitmap}
 use lib.IntN.{ℤ}
 use Rattle.model.proofs.NumberLaws.{numbered-at, numbered-other, numbered-same}
 use Rattle.model.proofs.ByCase.{leaves-sending, leaves-other, recompute-if, recompute-not}
 use Rattle.message.proofs.Areas.{length-withOutboxMessage, outbox-same, outbox-other}
 use Rattle.message.proofs.Packing.{zeros-padded}
 use Rattle.queue.proofs.Listing.{Listing, arrived-listing}
+use Rattle.ready.proofs.ReadyLaws.{arrival-bitmap}
+use Rattle.ready.proofs.KeptLaws.{bits-recomputed, begun-right, end-right}
 use Rattle.priority.proofs.EffectiveLaws.{effectives-agree, own-agree}
 use Rattle.invariant.specs.Rows.{openTasks, openWorld}
 use Rattle.invariant.specs.Invariant.{Lasting, Invariant, Steady}
 use Rattle.invariant.proofs.Exchange.{inside}
-use Rattle.invariant.proofs.Parts.{Boxed, recomputed}
+use Rattle.invariant.proofs.Parts.{Boxed, recomputed, with-bits}
 use Rattle.invariant.proofs.Moves.{withRow, moved, Meets, idle, same-box, moves}
 
--- ---- priorities
+-- ---- priorities and bits
 
 pub priorities-recomputed : (k : Kernel) → Priorities (recompute k)
 unfolding Priorities recompute facts standsIn openTasks
@@ -22,13 +24,13 @@ priorities-recomputed k = refl
 -- a world whose kernel is exchanged, and its priorities recomputed
 pub steady-settled : {exiting : ℕ} (w : World) {k : Kernel} → Invariant exiting k (w .store) (w .outbox) → Steady exiting (settled (withKernel w k))
 unfolding settled withKernel
-steady-settled w {k} v = record { invariant = recomputed v; priorities = priorities-recomputed k }
+steady-settled w {k} v = record { invariant = recomputed v; priorities = priorities-recomputed k; bitmap = bits-recomputed k }
 
--- arrivals, buffers and pools do not enter them
-pub priorities-beside : (k : Kernel) (ts : List ℕ) (x : Buffers) (y : Pools) → Priorities k
-    → Priorities (record { tasks = k .tasks; arrivals = ts; mutexes = k .mutexes; buffers = x; pools = y })
+-- arrivals, bits, buffers and pools do not enter them
+pub priorities-beside : (k : Kernel) (ts bits : List ℕ) (x : Buffers) (y : Pools) → Priorities k
+    → Priorities (record { tasks = k .tasks; arrivals = ts; bitmap = bits; mutexes = k .mutexes; buffers = x; pools = y })
 unfolding Priorities effectives effective ownPriority holderAwaited facts
-priorities-beside k ts x y h = h
+priorities-beside k ts bits x y h = h
 
 -- a task that goes from one place to another, neither of them a mutex's queue: nobody's priority changes
 module _ (k : Kernel) (t : ℕ) (low : 1 ≤ t) (inside : t < length (k .tasks .place)) (q : Queue) (was : k .tasks .place ! t ≢ locking) (is : q .place ≢ locking) where
@@ -51,8 +53,8 @@ module _ (k : Kernel) (t : ℕ) (low : 1 ≤ t) (inside : t < length (k .tasks .
 
 -- ---- a wait ends
 
-pub ready-is : (k : Kernel) (t : ℕ) → arrive (leaveKernel k t) t readyQueue ≡ moved k t readyQueue 0 0 (arrived t (k .arrivals))
-unfolding arrive leaveKernel moved withRow openTasks
+pub ready-is : (k : Kernel) (t : ℕ) → arrive (leaveKernel k t) t readyQueue ≡ withFreshBit (moved k t readyQueue 0 0 (arrived t (k .arrivals))) (k .tasks .current ! t)
+unfolding arrive leaveKernel facts standsIn moved withRow openTasks
 ready-is k t = rw (set-set (k .tasks .object) t 0 0, set-getD (k .tasks .initial) t 0, set-getD (k .tasks .base) t 0, set-getD (k .tasks .current) t 0)
 
 -- priorities are recomputed if it was for a mutex; whatever else holds
@@ -62,7 +64,9 @@ priorities-ended w t c d low inside h =
     rw (ready-is (w .kernel) t)
     (elim (ℕ-discrete (w .kernel .tasks .place ! t) locking) [
       | yes e ↦ rw (e, recompute-if) (priorities-recomputed _)
-      | no n ↦ rw (ne-eqb _ locking n, recompute-not) (priorities-moved (w .kernel) t low inside readyQueue n (λ (z : ready ≡ locking). omega arith) 0 0 _ h)
+      | no n ↦
+          rw (ne-eqb _ locking n, recompute-not)
+          (priorities-beside _ _ _ _ _ (priorities-moved (w .kernel) t low inside readyQueue n (λ (z : ready ≡ locking). omega arith) 0 0 _ h))
     ])
 
 module _ {exiting : ℕ} {w : World} (s : Steady exiting w) (t : ℕ) (low : 1 ≤ t) (high : t ≤ tasks) where
@@ -106,10 +110,11 @@ module _ {exiting : ℕ} {w : World} (s : Steady exiting w) (t : ℕ) (low : 1 �
         invariant =
             rw (ready-is k t)
             (elim (ℕ-discrete (k .tasks .place ! t) locking) [
-              | yes e ↦ rw (eq-eqb _ locking e, recompute-if) (recomputed (ready-again h))
-              | no n ↦ rw (ne-eqb _ locking n, recompute-not) (ready-again h)
+              | yes e ↦ rw (eq-eqb _ locking e, recompute-if) (recomputed (with-bits (ready-again h) _))
+              | no n ↦ rw (ne-eqb _ locking n, recompute-not) (with-bits (ready-again h) _)
             ]);
         priorities = priorities-ended w t c d low (inside (inv .ofTasks .lists .place) high) (s .priorities);
+        bitmap = end-right w t c d (s .bitmap);
       }
 
 -- ---- a wait begins
@@ -118,8 +123,8 @@ module _ {w : World} (s : Steady 0 w) (t : ℕ) (low : 1 ≤ t) (high : t ≤ ta
   abbrev waited : Kernel
   waited = moved (w .kernel) t q argument (millis timeout) (arrived t (w .kernel .arrivals))
 
-  pub wait-is : withLeft (withArgument (arrive (w .kernel) t q) t argument) t (millis timeout) ≡ waited
-  unfolding arrive moved withRow openTasks
+  pub wait-is : withLeft (withArgument (arrive (w .kernel) t q) t argument) t (millis timeout) ≡ withFreshBit waited (w .kernel .tasks .current ! t)
+  unfolding arrive facts standsIn moved withRow openTasks
   wait-is = let x = w .kernel .tasks in rw (set-getD (x .initial) t 0, set-getD (x .base) t 0, set-getD (x .current) t 0)
 
   pub waits-kept : {outbox′ : List ℕ} → w .kernel .tasks .place ! t ≡ ready → From locking getting (q .place) → Meets (w .kernel) t q argument → Lasting (millis timeout)
@@ -132,10 +137,13 @@ module _ {w : World} (s : Steady 0 w) (t : ℕ) (low : 1 ≤ t) (high : t ≤ ta
       moves v t low high q argument (millis timeout) (omega arith) (omega (arith, place)) (inl (omega (arith, place))) meets (inr (place .0, time)) silent
       (arrived-listing (v .ofTasks .listing) t (q .place) low high (omega (arith, place))) boxed bytes in
       let same = priorities-moved (w .kernel) t low (inside (v .ofTasks .lists .place) high) q (λ (z : w .kernel .tasks .place ! t ≡ locking). omega arith) in
+      let right = subst Bitmap wait-is (begun-right (arrive (w .kernel) t q) t argument (millis timeout) (arrival-bitmap (w .kernel) t q (s .bitmap))) in
       rw wait-is
       (elim (ℕ-discrete (q .place) locking) [
-        | yes e ↦ rw (eq-eqb _ locking e, recompute-if) (record { invariant = recomputed kept; priorities = priorities-recomputed waited })
-        | no n ↦ rw (ne-eqb _ locking n, recompute-not) (record { invariant = kept; priorities = same n argument (millis timeout) _ (s .priorities) })
+        | yes e ↦ rw (eq-eqb _ locking e, recompute-if) (record { invariant = recomputed (with-bits kept _); priorities = priorities-recomputed _; bitmap = bits-recomputed _ })
+        | no n ↦
+            rw (ne-eqb _ locking n, recompute-not)
+            (record { invariant = with-bits kept _; priorities = priorities-beside _ _ _ _ _ (same n argument (millis timeout) _ (s .priorities)); bitmap = right })
       ])
 
   -- a wait that sends nothing

@@ -1,10 +1,11 @@
--- What every step of a call keeps: all of `Valid` but two clauses. First senders are left out, since the drain serves them last in each call. So are current
--- priorities, since they are recomputed only at the end of an act that changes a base, a mutex or a wait for one; `Steady` has them, and every act keeps it.
+-- What every step of a call keeps: all of `Valid` but three clauses. First senders are left out, since the drain serves them last in each call. So are current
+-- priorities, since they are recomputed only at the end of an act that changes a base, a mutex or a wait for one, and the bits, which go with them and with who is
+-- ready; `Steady` has both, and every act keeps it.
 -- One task may be exiting (0 where none is): it has become dormant and still holds mutexes, whose ceilings need not bind its base, and gives them up one by one.
 --
 -- The clauses are grouped by the part of the kernel that they speak of, and ask of a task's row what its wait means there. So an act on one kind of object has
 -- to show nothing of the others, and a kind that is added adds a part.
-use Rattle.model.proofs.Terms.{ℕ, suc, _*_, _-_, _≤_, _<_, _≡_, _≢_, _⊎_, true, List, map, length, drop, tasks, priorities, mutexes, buffers, pools, blocks, messageBytes, regionBytes, blockBytes, poolBytes, storeBytes, outboxBytes, longest, endless, _!_, upTo, zeros, sum, member, absent, dormant, ready, locking, sending, receiving, getting, ceilinged, Kernel, Tasks, Mutexes, Buffers, Pools, slot, World, part, region, mutexAttributes, bufferAttributes, poolAttributes, Each, From, TaskLists, MutexLists, BufferLists, PoolLists, Layout, Priorities}
+use Rattle.model.proofs.Terms.{ℕ, suc, _*_, _-_, _≤_, _<_, _≡_, _≢_, _⊎_, true, List, map, length, drop, tasks, priorities, mutexes, buffers, pools, blocks, messageBytes, regionBytes, blockBytes, poolBytes, storeBytes, outboxBytes, longest, endless, _!_, upTo, zeros, sum, member, absent, dormant, ready, locking, sending, receiving, getting, ceilinged, Kernel, Tasks, Mutexes, Buffers, Pools, slot, World, part, region, mutexAttributes, bufferAttributes, poolAttributes, Each, From, TaskLists, MutexLists, BufferLists, PoolLists, Layout, Priorities, Bitmap}
 use Rattle.queue.proofs.Listing.{Listing}
 use Rattle.invariant.specs.Rows.{TaskRow, MutexRow, BufferRow, PoolRow, taskRows, mutexRows, bufferRows, poolRows}
 
@@ -126,7 +127,8 @@ pub record Invariant (exiting : ℕ) (k : Kernel) (store outbox : List ℕ) : Ty
   pub ofBuffers : BuffersKept (taskRows (k .tasks)) (k .buffers) store
   pub ofPools : PoolsKept (taskRows (k .tasks)) (k .pools)
 
--- what holds of a world between two acts: the invariant, and every current priority is the effective one
+-- what holds of a world between two acts: the invariant, every current priority is the effective one, and the bits are right
 pub record Steady (exiting : ℕ) (w : World) : Type 0 where
   pub invariant : Invariant exiting (w .kernel) (w .store) (w .outbox)
   pub priorities : Priorities (w .kernel)
+  pub bitmap : Bitmap (w .kernel)

@@ -29,7 +29,7 @@ pub record PoolRow : Type 0 where
   pub count : ℕ
   pub size : ℕ
 
--- Each kind's rows by number. Of a task the current priority is left out: it is worked out afresh after an act, and nothing else looks at it.
+-- Each kind's rows by number. Of a task the current priority is left out: it is worked out afresh after an act, and the invariant does not look at it.
 abbrev pub taskRows : Tasks → ℕ → TaskRow
 taskRows x t =
     record { place = x .place ! t; object = x .object ! t; argument = x .argument ! t; initial = x .initial ! t; base = x .base ! t; left = x .left ! t }

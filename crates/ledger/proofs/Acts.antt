@@ -1,5 +1,5 @@
 -- The acts of a call and the ledger: what an act does to the kernel, its entry or the ended waits do to the ledger.
-use Rattle.model.proofs.Terms.{ℕ, _≤_, _<_, ℕ-discrete, arith, _≡_, _∙_, refl, sym, ap, Bool, true, false, _&&_, none, Option·map, [], List, getD, set, set-set, getD-set-same, foldl, map-append, foldl-append, eqb, ltb-true, eqb-true, ℤ, pos, negsuc, leZ, ltZ, tasks, mutexes, buffers, _!_, member, E-OK, Queue, queue, readyQueue, ready, locking, sending, Kernel, Mutexes, Buffers, Pools, withBuffers, withMutexes, withHolder, withUsed, standsIn, facts, withKernel, queueFront, recompute, World, Delivery, Nothing, withOutbox, arrive, millis, settled, wait, leaveKernel, leave, endWait, endWaits, release, storeMessage, sendersMessage, firstFits, storeFirst, drain, Ledger, withMutexEntry, withLines, line, depart, lineOf, standing, onMutex, holds, join, endsWait}
+use Rattle.model.proofs.Terms.{ℕ, _≤_, _<_, ℕ-discrete, arith, _≡_, _∙_, refl, sym, ap, Bool, true, false, _&&_, none, Option·map, [], List, getD, set, set-set, getD-set-same, foldl, map-append, foldl-append, eqb, ltb-true, eqb-true, ℤ, pos, negsuc, leZ, ltZ, tasks, mutexes, buffers, _!_, member, E-OK, Queue, queue, readyQueue, ready, locking, sending, Kernel, Mutexes, Buffers, Pools, withBitmap, withBuffers, withMutexes, withHolder, withUsed, standsIn, facts, withKernel, queueFront, recompute, World, Delivery, Nothing, withOutbox, arrive, millis, settled, wait, leaveKernel, leave, endWait, endWaits, release, storeMessage, sendersMessage, firstFits, storeFirst, drain, Ledger, withMutexEntry, withLines, line, depart, lineOf, standing, onMutex, holds, join, endsWait}
 use mathlib.Core.Option.{map-map}
 use Rattle.model.proofs.ByCase.{recompute-only, release-free, release-next}
 use Rattle.model.proofs.Folds.{numbers-keep, serve-keeps}
@@ -27,6 +27,11 @@ Ahead f l w = foldl endsWait l (endedCodes (w .ended)) ≡ f (ledgerOf (w .kerne
 pub not-priorities : (k : Kernel) → ledgerOf (recompute k) ≡ ledgerOf k
 unfolding ledgerOf recompute facts standsIn openTasks
 not-priorities k = refl
+
+-- nor are the bits
+not-bits : (k : Kernel) (word : ℕ) → ledgerOf (withBitmap k word) ≡ ledgerOf k
+unfolding ledgerOf facts standsIn
+not-bits k word = refl
 
 pub waits-entered : {w : World} → Steady 0 w → (t : ℕ) → 1 ≤ t → t ≤ tasks → (q : Queue) (argument : ℕ) (timeout : ℤ) (outbox : List ℕ)
     → ready ≤ w .kernel .tasks .place ! t → ready ≤ q .place → q .object < widths ! (q .place)
@@ -65,7 +70,7 @@ module _ (l : Ledger) {exiting : ℕ} {w : World} (s : Steady exiting w) (t : �
   unfolding widths endWait leave openWorld
   end-ahead f g e h =
       rw (map-append, foldl-append, h)
-      (e ∙ ap g (joins (s .invariant) t low high readyQueue 0 0 was (omega arith) (omega arith) ∙ sym (ended-ready w t c d ∙ ap ledgerOf (ready-is (w .kernel) t))))
+      (e ∙ ap g (joins (s .invariant) t low high readyQueue 0 0 was (omega arith) (omega arith) ∙ sym (ended-ready w t c d ∙ ap ledgerOf (ready-is (w .kernel) t) ∙ not-bits _ _)))
 
   -- no mutex comes with it
   pub end-follows : (w .kernel .tasks .place ! t ≡ locking → ltZ c (pos 0) ≡ true) → Follows l w → Follows l (endWait w t c d)

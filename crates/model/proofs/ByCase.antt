@@ -17,7 +17,7 @@ use Rattle.model.specs.Lists.{_!_, firstWhere}
 use Rattle.model.specs.Code.{E-OK, E-SYS, E-TMOUT}
 use Rattle.model.specs.Facts.{queue, dormant, locking, sending, receiving, getting}
 use Rattle.model.specs.Queue.{byPriority}
-use Rattle.model.specs.Kernel.{Kernel, facts, withArrivals, withCurrents, withHolder, withLeft, withTaken, slot}
+use Rattle.model.specs.Kernel.{Kernel, facts, withTasks, withArrivals, withCurrents, withHolder, withLeft, withTaken, slot}
 use Rattle.model.specs.World.{World, Lent, Nothing, begun, withKernel, queueFront, recompute, running, withOutbox, Message, Block}
 use Rattle.model.specs.Message.{withOutboxMessage}
 use Rattle.model.specs.Act.{recomputeIf, leaveOutbox, settled, endWait, release, serve, wait, storeMessage}
@@ -42,6 +42,18 @@ module _ (p : ℕ → Bool) (x : ℕ) (xs : List ℕ) where
 
 -- ---- acts
 
+-- a kernel with all current priorities and the bits exchanged
+abbrev pub withCurrentsAndBits : Kernel → List ℕ → List ℕ → Kernel
+withCurrentsAndBits k current bitmap =
+    record {
+      tasks = withCurrents k current .tasks;
+      arrivals = k .arrivals;
+      bitmap = bitmap;
+      mutexes = k .mutexes;
+      buffers = k .buffers;
+      pools = k .pools;
+    }
+
 module _ (k : Kernel) where
   pub recompute-if : recomputeIf true k ≡ recompute k
   unfolding recomputeIf
@@ -51,9 +63,9 @@ module _ (k : Kernel) where
   unfolding recomputeIf
   recompute-not = refl
 
-  -- nothing but current priorities
-  pub recompute-only : (b : Bool) → recomputeIf b k ≡ withCurrents k (recomputeIf b k .tasks .current)
-  unfolding recomputeIf recompute withCurrents
+  -- nothing but current priorities and the bits
+  pub recompute-only : (b : Bool) → recomputeIf b k ≡ withCurrentsAndBits k (recomputeIf b k .tasks .current) (recomputeIf b k .bitmap)
+  unfolding recomputeIf recompute withCurrents withTasks
   recompute-only true = refl
   recompute-only false = refl
 

@@ -5,6 +5,7 @@ pub mod NumberLaws
 pub mod IntegerLaws
 pub mod Table
 pub mod Loops
+pub mod Rest
 pub mod ByCase
 pub mod RefusalLaws
 pub mod Folds

@@ -82,6 +82,11 @@ pub numbered-none : (last : ℕ) (xs : List ℕ) (u : ℕ) → length xs ≡ suc
 numbered-none last xs u n (inl e) = rw e
 numbered-none last xs u n (inr h) = numbered-at xs u (omega arith) ∙ List·getD-eq-default xs 0 {n = u} (omega arith)
 
+-- an entry that is not some number above 0 is not so in the numbered list either
+pub numbered-not : (xs : List ℕ) (n a : ℕ) → xs ! n ≢ suc a → numbered xs ! n ≢ suc a
+numbered-not xs zero a d e = omega arith
+numbered-not xs (suc n) a d e = d (sym (numbered-at xs (suc n) (omega arith)) ∙ e)
+
 -- it is as long as the list
 pub numbered-long : (last : ℕ) (xs : List ℕ) → length xs ≡ suc last → length (numbered xs) ≡ suc last
 numbered-long last [] e = absurd (omega arith)

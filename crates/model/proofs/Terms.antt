@@ -21,12 +21,12 @@ pub use Rattle.model.specs.Code.{minus, E-OK, E-SYS, E-RSATR, E-PAR, E-I
 pub use Rattle.model.specs.Facts.{absent, dormant, ready, locking, sending, receiving, getting, Queue, queue, readyQueue, Facts, inherits, ceilinged}
 unfoldable pub use Rattle.model.specs.Priority.{linked, holderAwaited, ownPriority, effective, effectives}
 pub use Rattle.model.specs.Priority.{Linked, mostUrgent}
-unfoldable pub use Rattle.model.specs.Queue.{byPriority, ordered, order, front, wouldHead, nextToRun}
+unfoldable pub use Rattle.model.specs.Queue.{byPriority, ordered, order, front, wouldHead, nextToRun, readyAt, readyBitmap, withPriority}
 pub use Rattle.model.specs.Queue.{insert, sorted, searchReady}
 unfoldable pub use Rattle.model.specs.Kernel.{withTasks, withArrivals, withMutexes, withBuffers, withPools, withPlace, withObject, withArgument, withInitial, withBase, withCurrent, withLeft, withMutexExists, withMutexAttribute, withCeiling, withHolder, withBufferExists, withBufferAttribute, withBufsz, withMaxmsz, withUsed, withPoolExists, withPoolAttribute, withCount, withSize, withTaken, withCurrents, fresh, others, departed, arrived, standsIn, facts}
-pub use Rattle.model.specs.Kernel.{Tasks, Mutexes, Buffers, Pools, Kernel, slot, freshTasks, noMutexes, noBuffers, noPools, numbered}
+pub use Rattle.model.specs.Kernel.{Tasks, Mutexes, Buffers, Pools, Kernel, withBitmap, slot, freshTasks, noMutexes, noBuffers, noPools, numbered}
 unfoldable pub use Rattle.model.specs.World.{withKernel, withStore, withOutbox, withEnded, queueOrder, queueFront, headsQueue, running, recompute}
-pub use Rattle.model.specs.World.{Lent, Delivery, Ended, World, begun, lentOf, Nothing, Message, Block}
+pub use Rattle.model.specs.World.{Lent, Delivery, Ended, World, begun, lentOf, withFreshBits, withFreshBit, Nothing, Message, Block}
 unfoldable pub use Rattle.model.specs.Message.{handed, over, overwritten, cost, room, packed, appended, oldestLength, oldest, removed, part, withPart, region, withRegion, outboxMessage, withOutboxMessage}
 pub use Rattle.model.specs.Message.{roundedUp}
 unfoldable pub use Rattle.model.specs.Act.{arrive, recomputeIf, settled, wait, leaveKernel, leaveOutbox, leave, endWait, endWaits, release, releaseAll, becomeDormant, fits, storeMessage, sendersMessage, firstFits, storeFirst, drain, unused}
@@ -35,7 +35,7 @@ unfoldable pub use Rattle.model.specs.Refusal.{nobodyRuns, badAttribute,
 pub use Rattle.model.specs.Refusal.{Refusal, refuse, firstRefusal, outside, mutexAttributes, bufferAttributes, poolAttributes}
 unfoldable pub use Rattle.model.specs.Effect.{creTsk, delTsk, staTsk, extTsk, terTsk, arrivesAnew, rejoin, chgPri, creMtx, delMtx, locMtx, unlMtx, creMbf, delMbf, sndMbf, takeOldest, rcvMbf, creMpf, delMpf, getMpf, relMpf, tickTask, tick, perform, effect}
 pub use Rattle.model.specs.Effect.{Done, answered, succeeds, waits}
-unfoldable pub use Rattle.model.specs.Valid.{TaskRange, taskRange, MutexRange, mutexRange, BufferRange, bufferRange, PoolRange, poolRange, BlockFlag, blockFlag, awaitable, Argument, argument, Wait, waitFields, Arrivals, arrivals, Priorities, currentPriorities, Ceiling, ceiling, Locking, lockingTask, Getting, gettingTask, Receiving, receivingTask, FirstSender, firstSender, Outbox, outboxPart, valid}
+unfoldable pub use Rattle.model.specs.Valid.{TaskRange, taskRange, MutexRange, mutexRange, BufferRange, bufferRange, PoolRange, poolRange, BlockFlag, blockFlag, awaitable, Argument, argument, Wait, waitFields, Arrivals, arrivals, Priorities, currentPriorities, Bitmap, rightBitmap, Ceiling, ceiling, Locking, lockingTask, Getting, gettingTask, Receiving, receivingTask, FirstSender, firstSender, Outbox, outboxPart, valid}
 pub use Rattle.model.specs.Valid.{Each, taskLists, mutexLists, bufferLists, poolLists, ByNumber, TaskLists, MutexLists, BufferLists, PoolLists, lists, Lengths, lengths, From, Layout, layout, RegionLayout, regionLayout, Valid}
 unfoldable pub use Rattle.model.specs.Words.{sizes, fromFields, fields, kernel, words}
 pub use Rattle.model.specs.Words.{wordCount}

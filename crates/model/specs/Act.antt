@@ -11,12 +11,14 @@ use Rattle.model.specs.Lists.{_!_, upTo, firstWhere}
 use Rattle.model.specs.Code.{E-OK}
 use Rattle.model.specs.Facts.{Queue, queue, readyQueue, dormant, locking, sending}
 use Rattle.model.specs.Kernel.{Kernel, withArrivals, withPlace, withObject, withArgument, withBase, withLeft, withHolder, withUsed, departed, arrived}
-use Rattle.model.specs.World.{World, Delivery, Nothing, withKernel, withStore, withOutbox, withEnded, queueFront, recompute}
+use Rattle.model.specs.World.{World, Delivery, Nothing, withKernel, withStore, withOutbox, withEnded, queueFront, withFreshBit, recompute}
 use Rattle.model.specs.Message.{cost, room, appended, region, withRegion, outboxMessage, withOutboxMessage}
 
--- A task arrives in a queue: last, and taken from where it stood.
+-- A task arrives in a queue: last, and taken from where it stood. It becomes ready or is so no more, so the bit of its priority is worked
+-- out afresh.
 unfoldable pub arrive : Kernel → ℕ → Queue → Kernel
-arrive k t q = withArrivals (withObject (withPlace k t (q .place)) t (q .object)) (arrived t (k .arrivals))
+arrive k t q =
+    withFreshBit (withArrivals (withObject (withPlace k t (q .place)) t (q .object)) (arrived t (k .arrivals))) (k .tasks .current ! t)
 
 -- priorities settled, where a wait for a mutex begins or ends
 unfoldable pub recomputeIf : Bool → Kernel → Kernel

@@ -1,20 +1,22 @@
 -- 01, "On both sides of the mark": every bullet that has a [P], whole, and beside them a case for sentences that no bullet holds, and both sides of 02's requests Two, Five and Nine, as
--- one table under one statement, proved by computing; and the numbers of request Nine, a table of their own.
+-- one table under one statement, proved by computing; and the numbers of request Nine and the bits of request Three, tables of their own.
 use Prim.Native.Nat.{ℕ, suc, pred, _+_, _-_, _^_}
 use mathlib.Core.Path.{_≡_, refl}
-use mathlib.Core.Bool.{true}
+use mathlib.Core.Bool.{true, false, not}
 use mathlib.Core.List.{List, [], _∷_, _++_, map, foldl}
 use lib.ListN.{length, getD}
 use lib.IntN.{ℤ, pos}
+use lib.Dec.{eqb}
 use Rattle.model.specs.declared.call.Call.{Call}
-use Rattle.model.specs.declared.call.Call.the-variants.{CreTsk, StaTsk, ChgPri, CreMtx, LocMtx, UnlMtx, CreMbf, DelMbf, SndMbf, RcvMbf, CreMpf, GetMpf, RelMpf, Tick}
+use Rattle.model.specs.declared.call.Call.the-variants.{CreTsk, StaTsk, ExtTsk, ChgPri, CreMtx, LocMtx, UnlMtx, CreMbf, DelMbf, SndMbf, RcvMbf, CreMpf, GetMpf, RelMpf, Tick}
 use Rattle.model.specs.declared.call.Answer.{Answer}
 use Rattle.model.specs.declared.call.Answer.the-variants.{Code, Waits}
 use Rattle.model.specs.Sizes.{messageBytes, storeBytes, outboxBytes}
-use Rattle.model.specs.Lists.{_!_, upTo, zeros}
+use Rattle.model.specs.Lists.{_!_, countFrom, upTo, zeros}
+use Rattle.model.specs.Bits.{withBit}
 use Rattle.model.specs.Code.{minus, E-OK, E-SYS, E-PAR, E-NOEXS, E-ILUSE, E-TMOUT, E-DLT, saturated, number}
 use Rattle.model.specs.Facts.{queue, locking}
-use Rattle.model.specs.Kernel.{fresh}
+use Rattle.model.specs.Kernel.{withBitmap, fresh}
 use Rattle.model.specs.World.{Lent, Delivery, Nothing, Message, Block, queueFront, running}
 use Rattle.model.specs.Message.{part, room}
 use Rattle.model.specs.Record.{fieldsOf}
@@ -298,6 +300,27 @@ abbrev pub EndsHold : Type 0
 EndsHold =
     map saturated (pos (2 ^ 31 - 1) ∷ minus (2 ^ 31) ∷ pos (2 ^ 31) ∷ minus (2 ^ 31 + 1) ∷ [])
     ≡ pos (2 ^ 31 - 1) ∷ minus (2 ^ 31) ∷ pos (2 ^ 31 - 1) ∷ minus (2 ^ 31) ∷ []
+
+-- 02, request Three: "one bit for each priority with a ready task": the word of bits after each of some calls
+abbrev pub bitsAfter : Lent → List Call → List ℕ
+bitsAfter x [] = []
+bitsAfter x (c ∷ cs) = let y = step x c [] .lent in y .kernel .bitmap ! 0 ∷ bitsAfter y cs
+
+-- Two tasks of priority 5 are started beside task 1, which holds a mutex that inherits; one of them waits for it, and task 1 is raised to 5; task 1 unlocks and
+-- is at 8 again. The two exit, first one and then the other. Task 1 goes to the last priority, to the first, and exits; a tick passes.
+abbrev pub BitsHold : Type 0
+BitsHold =
+    bitsAfter freshLent
+    (CreMtx (pos 2) (pos 0) ∷ LocMtx (pos 1) forever ∷ CreTsk (pos 5) ∷ CreTsk (pos 5) ∷ StaTsk (pos 2) ∷ StaTsk (pos 3) ∷ LocMtx (pos 1) forever ∷ UnlMtx (pos 1)
+    ∷ ExtTsk ∷ ExtTsk ∷ ChgPri (pos 0) (pos 16) ∷ ChgPri (pos 0) (pos 1) ∷ ExtTsk ∷ Tick ∷ [])
+    ≡ 128 ∷ 128 ∷ 128 ∷ 128 ∷ 144 ∷ 144 ∷ 16 ∷ 144 ∷ 144 ∷ 128 ∷ 32768 ∷ 1 ∷ 0 ∷ 0 ∷ []
+
+-- "sound states [..] gain 'the bits as worked out afresh'": the fresh state with one of the word's 32 bits, counted from 0, the other way; bit 7 is set
+abbrev wrongBit : ℕ → Lent
+wrongBit i = record { kernel = withBitmap fresh (withBit (2 ^ 7) i (not (eqb i 7))); store = zeros storeBytes; outbox = zeros outboxBytes }
+
+abbrev pub WrongBitsFail : Type 0
+WrongBitsFail = map (λ i. valid (wrongBit i)) (countFrom 0 32) ≡ map (λ i. false) (countFrom 0 32)
 
 -- Buffer 1 has bufsz bytes. Messages of these lengths are stored; then one of n bytes is sent that must not wait. Its answer is seen, and what is used then.
 abbrev sendInto : ℕ → List ℕ → ℕ → Answer → ℕ → Case
@@ -917,6 +940,14 @@ rooms-hold = refl
 
 pub ends-hold : EndsHold
 ends-hold = refl
+
+pub bits-hold : BitsHold
+unfolding compute
+bits-hold = refl
+
+pub wrong-bits-fail : WrongBitsFail
+unfolding compute
+wrong-bits-fail = refl
 
 -- the fresh state is valid
 pub fresh-valid : valid freshLent ≡ true

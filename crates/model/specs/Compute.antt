@@ -1,6 +1,7 @@
 -- What has to unfold for the definitions to compute. `unfolding compute` under a signature lets the definitions run there: a script's
 -- log, a case's outcome. Each topic's file has its own list.
 use Rattle.model.specs.Number.{computeNumber}
+use Rattle.model.specs.Bits.{computeBits}
 use Rattle.model.specs.Priority.{computePriority}
 use Rattle.model.specs.Queue.{computeQueue}
 use Rattle.model.specs.Kernel.{computeKernel}
@@ -18,5 +19,5 @@ use Rattle.model.specs.Lent.{computeLent}
 use Rattle.model.specs.Ledger.{computeLedger}
 
 unfoldable pub compute : Unit {0}
-unfolding computeNumber computePriority computeQueue computeKernel computeWorld computeMessage computeAct computeRefusal computeEffect computeValid computeWords computeStep computeRecord computeLog computeLent computeLedger
+unfolding computeNumber computeBits computePriority computeQueue computeKernel computeWorld computeMessage computeAct computeRefusal computeEffect computeValid computeWords computeStep computeRecord computeLog computeLent computeLedger
 compute = tt

@@ -26,8 +26,11 @@ left = suc current
 abbrev pub arrivals : ℕ
 arrivals = suc left
 
+abbrev pub bitmap : ℕ
+bitmap = suc arrivals
+
 abbrev pub mutexExists : ℕ
-mutexExists = suc arrivals
+mutexExists = suc bitmap
 
 abbrev pub mutexAttribute : ℕ
 mutexAttribute = suc mutexExists

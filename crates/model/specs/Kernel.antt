@@ -1,6 +1,6 @@
 -- The kernel's state as a record of lists; document 01 calls the kernel the bench. Lists are indexed by an object's number; entry 0
--- stands for none and is zero. In the definitions the records are built by the functions of this file alone.
-use Prim.Native.Nat.{ℕ, suc, _+_, _*_}
+-- stands for none and is zero; the arrivals and the word of bits have no such entry. In the definitions the records are built by the functions of this file alone.
+use Prim.Native.Nat.{ℕ, suc, _+_, _*_, _^_}
 use mathlib.Core.Bool.{Bool, _&&_, not}
 use mathlib.Core.List.{List, [], _∷_, _++_}
 use lib.ListN.{length, drop, set}
@@ -59,25 +59,30 @@ pub record Pools : Type 0 where
 pub record Kernel : Type 0 where
   pub tasks : Tasks
   pub arrivals : List ℕ
+  -- one word: bit p - 1 is set if a task is ready at current priority p
+  pub bitmap : List ℕ
   pub mutexes : Mutexes
   pub buffers : Buffers
   pub pools : Pools
 
 -- a part of the kernel exchanged
 unfoldable pub withTasks : Kernel → Tasks → Kernel
-withTasks k x = record { tasks = x; arrivals = k .arrivals; mutexes = k .mutexes; buffers = k .buffers; pools = k .pools }
+withTasks k x = record { tasks = x; arrivals = k .arrivals; bitmap = k .bitmap; mutexes = k .mutexes; buffers = k .buffers; pools = k .pools }
 
 unfoldable pub withArrivals : Kernel → List ℕ → Kernel
-withArrivals k x = record { tasks = k .tasks; arrivals = x; mutexes = k .mutexes; buffers = k .buffers; pools = k .pools }
+withArrivals k x = record { tasks = k .tasks; arrivals = x; bitmap = k .bitmap; mutexes = k .mutexes; buffers = k .buffers; pools = k .pools }
+
+abbrev pub withBitmap : Kernel → ℕ → Kernel
+withBitmap k x = record { tasks = k .tasks; arrivals = k .arrivals; bitmap = x ∷ []; mutexes = k .mutexes; buffers = k .buffers; pools = k .pools }
 
 unfoldable pub withMutexes : Kernel → Mutexes → Kernel
-withMutexes k x = record { tasks = k .tasks; arrivals = k .arrivals; mutexes = x; buffers = k .buffers; pools = k .pools }
+withMutexes k x = record { tasks = k .tasks; arrivals = k .arrivals; bitmap = k .bitmap; mutexes = x; buffers = k .buffers; pools = k .pools }
 
 unfoldable pub withBuffers : Kernel → Buffers → Kernel
-withBuffers k x = record { tasks = k .tasks; arrivals = k .arrivals; mutexes = k .mutexes; buffers = x; pools = k .pools }
+withBuffers k x = record { tasks = k .tasks; arrivals = k .arrivals; bitmap = k .bitmap; mutexes = k .mutexes; buffers = x; pools = k .pools }
 
 unfoldable pub withPools : Kernel → Pools → Kernel
-withPools k x = record { tasks = k .tasks; arrivals = k .arrivals; mutexes = k .mutexes; buffers = k .buffers; pools = x }
+withPools k x = record { tasks = k .tasks; arrivals = k .arrivals; bitmap = k .bitmap; mutexes = k .mutexes; buffers = k .buffers; pools = x }
 
 -- one entry of a list of tasks exchanged
 unfoldable pub withPlace : Kernel → ℕ → ℕ → Kernel
@@ -203,8 +208,15 @@ noPools =
 
 unfoldable pub fresh : Kernel
 fresh =
-    record
-    { tasks = freshTasks; arrivals = padded tasks (1 ∷ []); mutexes = noMutexes; buffers = noBuffers; pools = noPools }
+    record {
+      tasks = freshTasks;
+      arrivals = padded tasks (1 ∷ []);
+      -- one task is ready, at priority 8
+      bitmap = 2 ^ 7 ∷ [];
+      mutexes = noMutexes;
+      buffers = noBuffers;
+      pools = noPools;
+    }
 
 -- Arrivals without a task, and with it last: "Joining puts a task last and takes it from where it stood." No number of
 -- calls uses up this order.

@@ -25,7 +25,7 @@ use Rattle.model.specs.Log.{outcomeLog, stopBytes, tooLongBytes}
 abbrev pub lent : List ℕ → List ℕ → List ℕ → Lent
 lent w store outbox = record { kernel = kernel w; store = store; outbox = outbox }
 
--- 01, "Sound": whether what is lent is valid. The areas' lengths are a clause of `valid`; words that are more or fewer than a state's are
+-- 01, "Sound", with what 02 adds to it: whether what is lent is valid. The areas' lengths are a clause of `valid`; words that are more or fewer than a state's are
 -- no state.
 unfoldable pub isValid : List ℕ → List ℕ → List ℕ → Bool
 isValid w store outbox = eqb (length w) wordCount && valid (lent w store outbox)

@@ -1,6 +1,7 @@
 pub mod Sizes
 pub mod Lists
 pub mod Flags
+pub mod Bits
 pub mod Number
 pub mod Code
 pub mod Facts

@@ -1,4 +1,4 @@
--- 01, "Sound": which lent states and areas are valid. Each clause stands twice, as a statement and as a test that computes; that they
+-- 01, "Sound", and what 02 adds to it: which lent states and areas are valid. Each clause stands twice, as a statement and as a test that computes; that they
 -- agree is a theorem. No other state is worked on: the answer is -5.
 use Prim.Native.Nat.{ℕ, zero, suc, _+_, _*_, _-_, _≤_, _<_}
 use mathlib.Core.Path.{_≡_}
@@ -11,6 +11,7 @@ use Rattle.model.specs.Sizes.{tasks, priorities, mutexes, buffers, pools
 use Rattle.model.specs.Lists.{joined, _!_, countFrom, upTo, zeros, padded, sum, select, all, member, occurrences, same, allZero, implies, within}
 use Rattle.model.specs.Facts.{absent, dormant, ready, locking, sending, receiving, getting, ceilinged}
 use Rattle.model.specs.Priority.{effectives}
+use Rattle.model.specs.Queue.{readyBitmap}
 use Rattle.model.specs.Kernel.{Kernel, Tasks, Mutexes, Buffers, Pools, facts, slot}
 use Rattle.model.specs.World.{Lent}
 use Rattle.model.specs.Message.{cost, packed, oldestLength, part, region}
@@ -73,7 +74,7 @@ pub record PoolLists (x : Pools) : Type 0 where
 abbrev pub lists : ℕ → List (List ℕ) → Bool
 lists n = all (λ x. eqb (length x) (suc n) && eqb (x ! 0) 0)
 
--- the lists that have no such entry, and the areas, each "exactly" `storeBytes` or `outboxBytes` long
+-- the areas, each "exactly" `storeBytes` or `outboxBytes` long, and the lists that have no such entry; the bitmap's length is in its own clause
 pub record Lengths (x : Lent) : Type 0 where
   pub arrivals : length (x .kernel .arrivals) ≡ tasks
   pub taken : length (x .kernel .pools .taken) ≡ suc pools * suc blocks
@@ -208,6 +209,13 @@ Priorities k = k .tasks .current ≡ effectives (facts k)
 unfoldable pub currentPriorities : Kernel → Bool
 currentPriorities k = same (k .tasks .current) (effectives (facts k))
 
+-- 02, request Three: "the bits as worked out afresh"
+unfoldable pub Bitmap : Kernel → Type 0
+Bitmap k = k .bitmap ≡ readyBitmap (facts k) (k .tasks .current) ∷ []
+
+unfoldable pub rightBitmap : Kernel → Bool
+rightBitmap k = same (k .bitmap) (readyBitmap (facts k) (k .tasks .current) ∷ [])
+
 -- "no base above a held or awaited ceiling"
 unfoldable pub Ceiling : Kernel → ℕ → ℕ → Type 0
 Ceiling k t m = aboveCeiling k (k .tasks .base ! t) t m ≡ false
@@ -312,6 +320,7 @@ pub record Valid (x : Lent) : Type 0 where
   pub isWait : Each tasks (Wait (x .kernel))
   pub isArrivals : Arrivals (x .kernel)
   pub isPriorities : Priorities (x .kernel)
+  pub isBitmap : Bitmap (x .kernel)
   pub isCeiling : Each tasks (λ t. Each mutexes (Ceiling (x .kernel) t))
   pub isLocking : Each tasks (Locking (x .kernel))
   pub isGetting : Each tasks (Getting (x .kernel))
@@ -339,6 +348,7 @@ valid x =
     && all (waitFields k) (upTo tasks)
     && arrivals k
     && currentPriorities k
+    && rightBitmap k
     && all (λ t. all (ceiling k t) (upTo mutexes)) (upTo tasks)
     && all (lockingTask k) (upTo tasks)
     && all (gettingTask k) (upTo tasks)
@@ -349,6 +359,6 @@ valid x =
 
 -- what has to unfold for the definitions of this file to compute
 unfoldable pub computeValid : Unit {0}
-unfolding taskRange mutexRange bufferRange poolRange blockFlag awaitable argument waitFields arrivals currentPriorities ceiling
+unfolding taskRange mutexRange bufferRange poolRange blockFlag awaitable argument waitFields arrivals currentPriorities rightBitmap ceiling
     lockingTask gettingTask receivingTask firstSender outboxPart valid
 computeValid = tt

@@ -19,6 +19,7 @@ unfoldable pub sizes : List ℕ
 sizes =
     suc tasks ∷ suc tasks ∷ suc tasks ∷ suc tasks ∷ suc tasks ∷ suc tasks ∷ suc tasks
     ∷ tasks
+    ∷ 1
     ∷ suc mutexes ∷ suc mutexes ∷ suc mutexes ∷ suc mutexes
     ∷ suc buffers ∷ suc buffers ∷ suc buffers ∷ suc buffers ∷ suc buffers
     ∷ suc pools ∷ suc pools ∷ suc pools ∷ suc pools
@@ -43,6 +44,7 @@ fromFields fs =
             left = at field.left;
           };
       arrivals = at field.arrivals;
+      bitmap = at field.bitmap;
       mutexes =
           record {
             exists = at field.mutexExists;
@@ -72,7 +74,7 @@ fromFields fs =
     at f = getD fs f []
 
 unfoldable pub fields : Kernel → List (List ℕ)
-fields k = taskLists k ++ k .arrivals ∷ mutexLists k ++ bufferLists k ++ poolLists k ++ k .pools .taken ∷ []
+fields k = taskLists k ++ k .arrivals ∷ k .bitmap ∷ mutexLists k ++ bufferLists k ++ poolLists k ++ k .pools .taken ∷ []
 
 -- the kernel that the words hold, and the words of a kernel
 unfoldable pub kernel : List ℕ → Kernel

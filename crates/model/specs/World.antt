@@ -3,10 +3,11 @@ use Prim.Native.Nat.{ℕ}
 use mathlib.Core.Bool.{Bool}
 use mathlib.Core.List.{List, [], _∷_, _++_}
 use lib.IntN.{ℤ}
+use Rattle.model.specs.Lists.{_!_}
 use Rattle.model.specs.Facts.{Queue}
 use Rattle.model.specs.Priority.{effectives}
-use Rattle.model.specs.Queue.{order, front, wouldHead, nextToRun}
-use Rattle.model.specs.Kernel.{Kernel, facts, withCurrents}
+use Rattle.model.specs.Queue.{order, front, wouldHead, nextToRun, readyAt, readyBitmap, withPriority}
+use Rattle.model.specs.Kernel.{Kernel, facts, withBitmap, withCurrents}
 
 -- What is lent to a call: the kernel's state, the store and the outbox.
 pub record Lent : Type 0 where
@@ -69,9 +70,16 @@ headsQueue k q t = wouldHead (facts k) (k .tasks .current) q t
 unfoldable pub running : Kernel → ℕ
 running k = nextToRun (facts k) (k .tasks .current)
 
--- "priorities settled": every current priority becomes the effective one
+-- 02, request Three, the bits as worked out afresh: those of all priorities, and that of one, where the ready tasks of no other have changed
+abbrev pub withFreshBits : Kernel → Kernel
+withFreshBits k = withBitmap k (readyBitmap (facts k) (k .tasks .current))
+
+abbrev pub withFreshBit : Kernel → ℕ → Kernel
+withFreshBit k p = withBitmap k (withPriority (k .bitmap ! 0) p (readyAt (facts k) (k .tasks .current) p))
+
+-- "priorities settled": every current priority becomes the effective one, and the bits go with them
 unfoldable pub recompute : Kernel → Kernel
-recompute k = withCurrents k (effectives (facts k))
+recompute k = withFreshBits (withCurrents k (effectives (facts k)))
 
 -- what has to unfold for the definitions of this file to compute
 unfoldable pub computeWorld : Unit {0}

@@ -1,5 +1,5 @@
 -- loc_mtx, in the order of the code's steps. Assumes nothing.
-use Rattle.model.proofs.Terms.{ℕ, _≤_, arith, _≡_, _∙_, refl, sym, ap, _≢_, Bool, true, false, _&&_, not, none, List, [], _∷_, length, ℤ, eqb, ltb, eq-eqb, ne-eqb, _!_, tasks, mutexes, E-OK, E-PAR, E-ID, E-NOEXS, E-ILUSE, E-TMOUT, number, queue, locking, inherits, ceilinged, Kernel, withHolder, Nothing, withKernel, running, recompute, settled, millis, wait, Refusal, refuse, firstRefusal, badTimeout, badNumber, noSuch, noTime, lockWaits, locMtxRefusals, locMtx, kernel, wordCount, answerBytes, Each, Priorities, Locking}
+use Rattle.model.proofs.Terms.{ℕ, _≤_, arith, _≡_, _∙_, refl, sym, ap, _≢_, Bool, true, false, _&&_, not, none, List, [], _∷_, length, ℤ, eqb, ltb, eq-eqb, ne-eqb, _!_, tasks, mutexes, E-OK, E-PAR, E-ID, E-NOEXS, E-ILUSE, E-TMOUT, number, queue, locking, inherits, ceilinged, Kernel, withHolder, Nothing, withKernel, running, recompute, settled, millis, wait, Refusal, refuse, firstRefusal, badTimeout, badNumber, noSuch, noTime, lockWaits, locMtxRefusals, locMtx, kernel, wordCount, answerBytes, Each, Priorities, Bitmap, Locking}
 use Rattle.model.specs.Number.{fieldNumber, maybeMutex}
 use Rattle.model.specs.declared.number.MutexNumber.{MutexNumber}
 use Rattle.model.specs.declared.number.MaybeMutex.{MaybeMutex}
@@ -115,21 +115,21 @@ module _ (s : List ℕ) (m : ℕ) {s1 : List ℕ} {t u : ℕ} (u-is : u ≡ t) (
   pub takes : {s' : List ℕ} → Represents s' (recompute (kernel s1)) → Represents s' (recompute (withHolder (kernel s) m t))
   takes r = record { length = r .length; kernel = cc }
 
-  pub takes-quiet : length s ≡ wordCount → Priorities (kernel s) → Each tasks (Locking (kernel s)) → kernel s .mutexes .holder ! m ≡ 0
+  pub takes-quiet : length s ≡ wordCount → Priorities (kernel s) → Bitmap (kernel s) → Each tasks (Locking (kernel s)) → kernel s .mutexes .holder ! m ≡ 0
       → {a : ℕ} → a ≡ kernel s .mutexes .attribute ! m → a ≢ ceilinged → Represents s1 (recompute (withHolder (kernel s) m t))
   unfolding Locking
-  takes-quiet h settled waits free a-is d =
-      takes (holder-settled s h settled m u a-is d (λ x low high p o. waits x low high p .1 (ap (λ (n : ℕ). kernel s .mutexes .holder ! n) o ∙ free)) taken)
+  takes-quiet h settled right waits free a-is d =
+      takes (holder-settled s h settled right m u a-is d (λ x low high p o. waits x low high p .1 (ap (λ (n : ℕ). kernel s .mutexes .holder ! n) o ∙ free)) taken)
 
 -- or the caller waits, for one that inherits or not
 module _ (s : List ℕ) (m t : ℕ) (timeout : ℤ) {n : ℕ} (n-is : n ≡ m) {s1 : List ℕ} (begun : Represents s1 (waitBegun (kernel s) t (queue locking n) 0 timeout)) where
   pub awaits : {s' : List ℕ} → Represents s' (recompute (kernel s1)) → DoesInWords (λ w. wait w t (queue locking m) 0 timeout) s s'
   awaits r = waits-locking t locking m 0 timeout s (rw n-is at begun) refl r
 
-  pub awaits-quiet : length s ≡ wordCount → t ≡ running (kernel s) → Priorities (kernel s) → {a : ℕ} → a ≡ kernel s .mutexes .attribute ! m → a ≢ inherits
+  pub awaits-quiet : length s ≡ wordCount → t ≡ running (kernel s) → Priorities (kernel s) → Bitmap (kernel s) → {a : ℕ} → a ≡ kernel s .mutexes .attribute ! m → a ≢ inherits
       → DoesInWords (λ w. wait w t (queue locking m) 0 timeout) s s1
   unfolding waitBegun
-  awaits-quiet h runs settled a-is d = awaits (wait-settled s h settled m t a-is d stands 0 (millis timeout) (rw n-is at begun))
+  awaits-quiet h runs settled right a-is d = awaits (wait-settled s h settled right m t a-is d stands 0 (millis timeout) (rw n-is at begun))
     where
       stands : t ≢ 0 → (t ≤ tasks) × (kernel s .tasks .place ! t ≢ locking)
       stands z =

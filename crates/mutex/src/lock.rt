@@ -39,7 +39,7 @@ ghost use Rattle.model.specs.World.{running, recompute as recomputed};
 ghost use Rattle.model.specs.Act.{wait as waiting};
 ghost use Rattle.model.specs.Refusal.{firstRefusal, locMtxRefusals};
 ghost use Rattle.model.specs.Effect.{locMtx};
-ghost use Rattle.model.specs.Valid.{Each, Priorities, Locking};
+ghost use Rattle.model.specs.Valid.{Each, Priorities, Bitmap, Locking};
 ghost use Rattle.model.specs.Words.{wordCount, kernel};
 ghost use Rattle.state.specs.Words.{Represents};
 ghost use Rattle.act.specs.Held.{DoesInWords};
@@ -88,6 +88,7 @@ pub fn refuse_loc_mtx(state: &[u32], caller: TaskNumber, mutex: i32, timeout: i3
 fn take(state: &mut [u32], m: MutexNumber, caller: TaskNumber)
     requires { ⌜ length (now state) ≡ wordCount ⌝ }
     requires { ⌜ Priorities (kernel (now state)) ⌝ }
+    requires { ⌜ Bitmap (kernel (now state)) ⌝ }
     requires { ⌜ Each tasks (Locking (kernel (now state))) ⌝ }
     requires { ⌜ kernel (now state) .mutexes .holder ! (m .0) ≡ 0 ⌝ }
     ensures { λ _. ⌜ Represents (now (state .exit)) (recomputed (withHolder (kernel (now (state .entry))) (m .0) (caller .0))) ⌝ }
@@ -104,6 +105,7 @@ fn wait_for(state: &mut [u32], m: MutexNumber, caller: TaskNumber, timeout: i32)
     requires { ⌜ length (now state) ≡ wordCount ⌝ }
     requires { ⌜ caller .0 ≡ running (kernel (now state)) ⌝ }
     requires { ⌜ Priorities (kernel (now state)) ⌝ }
+    requires { ⌜ Bitmap (kernel (now state)) ⌝ }
     ensures { λ _. ⌜ DoesInWords (λ w. waiting w (caller .0) (queue locking (m .0)) 0 timeout) (now (state .entry)) (now (state .exit)) ⌝ }
 {
     let a = attribute(state, m);
@@ -126,6 +128,7 @@ pub fn loc_mtx(
     requires { ⌜ caller .0 ≡ running (kernel (now state)) ⌝ }
     requires { ⌜ firstRefusal (locMtxRefusals (kernel (now state)) mutex timeout) ≡ none ⌝ }
     requires { ⌜ Priorities (kernel (now state)) ⌝ }
+    requires { ⌜ Bitmap (kernel (now state)) ⌝ }
     requires { ⌜ Each tasks (Locking (kernel (now state))) ⌝ }
     ensures { λ r. ⌜ CarriesInWords (caller .0) (λ w. locMtx w (number mutex) timeout) (now (state .entry)) (now (log .entry)) at (now (state .exit)) (now (log .exit)) r ⌝ }
 {

@@ -20,7 +20,7 @@ ghost use Rattle.model.specs.Code.{number};
 ghost use Rattle.model.specs.World.{running};
 ghost use Rattle.model.specs.Refusal.{firstRefusal, unlMtxRefusals};
 ghost use Rattle.model.specs.Effect.{unlMtx};
-ghost use Rattle.model.specs.Valid.{Arrivals, Priorities};
+ghost use Rattle.model.specs.Valid.{Arrivals, Priorities, Bitmap};
 ghost use Rattle.model.specs.Words.{wordCount, kernel};
 ghost use Rattle.reply.specs.Replies.{verdict, CarriesInLog};
 
@@ -54,6 +54,7 @@ pub fn unl_mtx(
     requires { ⌜ length (now state) ≡ wordCount ⌝ }
     requires { ⌜ firstRefusal (unlMtxRefusals (kernel (now state)) mutex) ≡ none ⌝ }
     requires { ⌜ Priorities (kernel (now state)) ⌝ }
+    requires { ⌜ Bitmap (kernel (now state)) ⌝ }
     requires { ⌜ Arrivals (kernel (now state)) ⌝ }
     ensures { λ r. ⌜ CarriesInLog (caller .0) (λ w. unlMtx w (number mutex)) (now (state .entry)) (now (outbox .entry)) (now (log .entry)) at (now (state .exit)) (now (outbox .exit)) (now (log .exit)) r ⌝ }
 {

@@ -17,6 +17,7 @@ use Rattle.invariant.specs.Rows.{BufferRow, withBufferRow, openWorld}
 use Rattle.invariant.specs.Invariant.{Lasting, Steady}
 use Rattle.invariant.proofs.Parts.{buffer-exchanged}
 use Rattle.invariant.proofs.Moves.{meets-sender, meets-receiver}
+use Rattle.ready.proofs.KeptLaws.{bits-beside}
 use Rattle.invariant.proofs.Waits.{priorities-beside, ended, waits-kept, waits-quiet}
 use Rattle.invariant.proofs.Ends.{struck-out, strike}
 use Rattle.invariant.proofs.Stores.{buffer-there, region-long, region-exchanged, stored}
@@ -55,7 +56,8 @@ module _ {w : World} (s : Steady 0 w) where
             refl (layout-none none-used (inv .ofBuffers .layout b (r .0) (r .1))) (λ c i d. refl)
             (λ u i j p o. absurd (nobody-awaits k (k .buffers .exists) sending b (free .1) (λ t x y q. inv .ofBuffers .sends t x y q .there) u i j p o))
             (λ u i j p o. absurd (nobody-awaits k (k .buffers .exists) receiving b (free .1) (λ t x y q. inv .ofBuffers .receives t x y q .there) u i j p o)));
-        priorities = priorities-beside k _ _ _ (s .priorities);
+        priorities = priorities-beside k _ _ _ _ (s .priorities);
+        bitmap = bits-beside k _ refl refl refl (s .bitmap);
       }
 
 -- ---- deletion
@@ -72,7 +74,8 @@ deletes-buffer {w} s buffer bytes fit e =
     let gone : Buffers → Buffers = λ x. withBufferRow x b row in
     let cleared : List ℕ → List ℕ = λ store. withRegion b store (zeros regionBytes) in
     let struck : World → World = strike (λ x. x) gone (λ x. x) cleared in
-    struck-out (λ x. x) gone (λ x. x) cleared E-DLT (receivers ++ senders) w (struck w) refl (priorities-beside (w .kernel) _ _ _ (s .priorities)) refl s
+    struck-out (λ x. x) gone (λ x. x) cleared E-DLT (receivers ++ senders) w (struck w) refl (priorities-beside (w .kernel) _ _ _ _ (s .priorities))
+    (bits-beside (w .kernel) _ refl refl refl (s .bitmap)) refl s
     (both-started s (queue receiving b) (queue sending b) (omega arith) (omega arith))
     (λ left.
     let x = left .steady .invariant in
@@ -131,7 +134,8 @@ module _ {w : World} (s : Steady 0 w) (b : ℕ) (low : 1 ≤ b) (high : b ≤ bu
         invariant =
             region-exchanged (s .invariant) b low high _ _ there (omega (arith, known .room)) (length-removed _ ∙ region-long (s .invariant) b low high) (r .layout)
             (λ u i j p o. n (ap (λ (c : ℕ). now .buffers .used ! c) (sym o) ∙ s .invariant .ofBuffers .receives u i j p .empty));
-        priorities = priorities-beside now _ _ _ (s .priorities);
+        priorities = priorities-beside now _ _ _ _ (s .priorities);
+        bitmap = bits-beside now _ refl refl refl (s .bitmap);
       }
 
   received : Timed (receiveWaits now b) timeout → Dec (now .buffers .used ! b ≡ 0) → Dec (queueFront now (queue sending b) ≡ 0) → Steady 0 (rcvMbf w b timeout .world)

@@ -15,6 +15,7 @@ use Rattle.invariant.specs.Rows.{MutexRow, mutexRows, withMutexRow}
 use Rattle.invariant.specs.Invariant.{MutexShape, Under, Steady}
 use Rattle.invariant.proofs.Parts.{mutex-exchanged}
 use Rattle.invariant.proofs.Moves.{meets-mutex}
+use Rattle.ready.proofs.KeptLaws.{bits-beside, bits-recomputed}
 use Rattle.invariant.proofs.Waits.{priorities-recomputed, steady-settled, waits-quiet}
 use Rattle.invariant.proofs.Releases.{mutex-there, taken, released}
 use Rattle.invariant.proofs.Ends.{struck-out, strike}
@@ -91,6 +92,7 @@ module _ {w : World} (s : Steady 0 w) where
             (λ z o. absurd (z free))
             (λ u i j p o. absurd (nobody-awaits k (k .mutexes .exists) locking n (f .1) (λ t x y q. s .invariant .ofMutexes .waits t x y q .there) u i j p o)));
         priorities = priorities-made k n a _ (numbered-at (k .mutexes .holder) n (r .0) ∙ free) (s .priorities);
+        bitmap = bits-beside k _ refl refl refl (s .bitmap);
       }
 
   pub deletes-mutex : (mutex : ℤ) → Keeps w (DelMtx mutex)
@@ -102,7 +104,7 @@ module _ {w : World} (s : Steady 0 w) where
       let gone : Mutexes → Mutexes = λ x. withMutexRow x m absent in
       let struck : World → World = strike gone (λ x. x) (λ x. x) (λ x. x) in
       struck-out gone (λ x. x) (λ x. x) (λ x. x) E-DLT (queueOrder k (queue locking m)) w (settled (struck w)) refl
-      (priorities-recomputed (struck w .kernel)) refl s (all-started s (queue locking m) (omega arith))
+      (priorities-recomputed (struck w .kernel)) (bits-recomputed (struck w .kernel)) refl s (all-started s (queue locking m) (omega arith))
       (λ left. mutex-exchanged (left .steady .invariant) m (r .0) (r .1) absent (inl (refl, refl, refl, refl)) (λ z. absurd (z refl))
       (λ u i j p o. absurd (nobody-left s (queue locking m) (omega arith) left (λ t h. h) u i j p o)))
 

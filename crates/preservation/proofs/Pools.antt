@@ -12,6 +12,7 @@ use Rattle.invariant.specs.Invariant.{PoolShape, Gets, PoolsKept, Steady}
 use Rattle.invariant.proofs.Parts.{pool-exchanged}
 use Rattle.model.proofs.Folds.{numbers-keep}
 use Rattle.invariant.proofs.Moves.{meets-pool}
+use Rattle.ready.proofs.KeptLaws.{bits-beside}
 use Rattle.invariant.proofs.Waits.{priorities-beside, ended, waits-quiet}
 use Rattle.invariant.proofs.Ends.{struck-out, strike}
 use Rattle.preservation.proofs.Keeps.{Keeps}
@@ -80,7 +81,8 @@ module _ {w : World} (s : Steady 0 w) where
             (inr (refl, allowed poolAttributes attribute (passed 1), in-range blocks count (passed 2), in-range blockBytes size (passed 3))) refl
             (λ b h. inl (not-taken (s .invariant .ofPools .flags n b (r .1) h) (λ g. omega (arith, g, none)))) (λ q b d h. refl) (omega arith)
             (λ u i j p o. absurd (nobody-awaits k (k .pools .exists) getting n (f .1) (λ t x y q. s .invariant .ofPools .waits t x y q .there) u i j p o));
-        priorities = priorities-beside k _ _ _ (s .priorities);
+        priorities = priorities-beside k _ _ _ _ (s .priorities);
+        bitmap = bits-beside k _ refl refl refl (s .bitmap);
       }
 
   pub deletes-pool : (pool : ℤ) → Keeps w (DelMpf pool)
@@ -92,7 +94,7 @@ module _ {w : World} (s : Steady 0 w) where
       let gone : Pools → Pools = λ x. withPoolRow x p absent (foldl (clear p) (x .taken) (upTo blocks)) in
       let struck : World → World = strike (λ x. x) (λ x. x) gone (λ x. x) in
       struck-out (λ x. x) (λ x. x) gone (λ x. x) E-DLT (queueOrder k (queue getting p)) w (struck w) refl
-      (priorities-beside k _ _ _ (s .priorities)) refl s (all-started s (queue getting p) (omega arith))
+      (priorities-beside k _ _ _ _ (s .priorities)) (bits-beside k _ refl refl refl (s .bitmap)) refl s (all-started s (queue getting p) (omega arith))
       (λ left.
       let x = left .steady .invariant in
       let c = cleared (x .ofPools) p (r .1) in
@@ -120,7 +122,8 @@ module _ {w : World} (s : Steady 0 w) where
             ])
             (λ q c d h. getD-set-other (x .taken) (slot p b) (slot q c) n 0 (λ (z : slot q c ≡ slot p b). d (omega arith)))
             (omega (arith, s .invariant .ofPools .room)) (λ u i j y o. absurd (nobody u i j y o)));
-        priorities = priorities-beside k _ _ _ (s .priorities);
+        priorities = priorities-beside k _ _ _ _ (s .priorities);
+        bitmap = bits-beside k _ refl refl refl (s .bitmap);
       }
 
   pub gets-block : (pool timeout : ℤ) → Keeps w (GetMpf pool timeout)

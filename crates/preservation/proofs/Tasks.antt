@@ -16,6 +16,7 @@ use Rattle.invariant.specs.Rows.{openTasks, openWorld}
 use Rattle.invariant.specs.Invariant.{Invariant, Steady}
 use Rattle.invariant.proofs.Exchange.{inside, numbers, set-by-number, set-here}
 use Rattle.invariant.proofs.Moves.{Unstarted, based, arrived-anew, holds-nothing, retasked}
+use Rattle.ready.proofs.KeptLaws.{bits-beside, unready-kept}
 use Rattle.invariant.proofs.Waits.{priorities-beside, steady-settled, ended}
 use Rattle.invariant.proofs.Dormant.{falls-dormant}
 use Rattle.preservation.proofs.Keeps.{Keeps}
@@ -62,7 +63,11 @@ rejoins {w} s t low high there =
     by-test (λ (j : Kernel). Steady 0 (withKernel w j)) (arrivesAnew (w .kernel) t)
     (λ e.
     let started = anew-started (w .kernel) t e in
-    record { invariant = arrived-anew (s .invariant) t low high (omega arith); priorities = priorities-beside (w .kernel) _ _ _ (s .priorities) })
+    record {
+      invariant = arrived-anew (s .invariant) t low high (omega arith);
+      priorities = priorities-beside (w .kernel) _ _ _ _ (s .priorities);
+      bitmap = bits-beside (w .kernel) _ refl refl refl (s .bitmap);
+    })
     (λ e. s)
 
 module _ {w : World} (s : Steady 0 w) where
@@ -118,8 +123,9 @@ module _ {w : World} (s : Steady 0 w) where
     retasks : Unstarted place p → Steady 0 (withKernel w k′)
     unfolding withKernel
     retasks good =
+        let bits = unready-kept k t place p (λ (z : place ≡ ready). omega arith) (λ (z : x .place ! t ≡ ready). omega arith) (s .bitmap) in
         let kept = same-listing (inv .ofTasks .listing) t place low high (rw (lt-leb ready (x .place ! t) was, lt-leb ready place is)) in
-        record { invariant = retasked inv t low high was place p (λ (z : t ≡ 0). omega arith) good kept; priorities = priorities-kept }
+        record { invariant = retasked inv t low high was place p (λ (z : t ≡ 0). omega arith) good kept; priorities = priorities-kept; bitmap = bits }
 
   pub creates-task : (priority : ℤ) → Keeps w (CreTsk priority)
   unfolding refusals creTskRefusals badField noneFree perform creTsk
@@ -156,7 +162,7 @@ module _ {w : World} (s : Steady 0 w) where
   starts-task task bytes fit e =
       let d = is-dormant k task e in
       let v = rw (start-is (number task) (d .0) (d .1) (d .2)) at (ended s (number task) (d .0) (d .1) E-OK Nothing (omega (arith, d .2))) in
-      record { invariant = v .invariant; priorities = v .priorities }
+      record { invariant = v .invariant; priorities = v .priorities; bitmap = v .bitmap }
 
   -- ---- a task becomes dormant
 

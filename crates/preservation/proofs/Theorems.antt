@@ -1,5 +1,5 @@
 -- The statements of `Statements`, proved: each name is its statement's.
-use Rattle.model.proofs.Terms.{Areas, ℕ-discrete, decLe, _≤_, arith, _≡_, refl, sym, subst, true, none, some, [], _∷_, length, eqb, eq-eqb, eqb-true, logBytes, scriptBytes, Kernel, Lent, begun, World, firstRefusal, refusals, perform, effect, Valid, valid, FirstSender, wordCount, kernel, words, fields, sizes, freshLent, refused, carriedOut, validStep, readRecord, recordMessage, lent, isValid, withLog, untouched, returned, scriptOver, went, lentRecord}
+use Rattle.model.proofs.Terms.{Areas, ℕ-discrete, decLe, _≤_, arith, _≡_, refl, sym, ap, subst, true, none, some, [], _∷_, length, eqb, eq-eqb, eqb-true, logBytes, scriptBytes, Kernel, Lent, begun, World, firstRefusal, refusals, perform, effect, Valid, valid, Bitmap, FirstSender, wordCount, kernel, words, fields, sizes, freshLent, refused, carriedOut, validStep, readRecord, recordMessage, lent, isValid, withLog, untouched, returned, scriptOver, went, lentRecord}
 use mathlib.Core.Bool.{and-eq-true-iff}
 use Rattle.model.specs.declared.call.Call.{Call}
 use Rattle.model.specs.declared.call.Call.the-variants.{CreTsk, DelTsk, StaTsk, ExtTsk, TerTsk, ChgPri, CreMtx, DelMtx, LocMtx, UnlMtx, CreMbf, DelMbf, SndMbf, RcvMbf, CreMpf, DelMpf, GetMpf, RelMpf, Tick}
@@ -86,9 +86,11 @@ valid-sized x v =
     let m = v .isMutexLists in
     let b = v .isBufferLists in
     let p = v .isPoolLists in
+    let one : length (x .kernel .bitmap) ≡ 1 = (unfold Bitmap in ap length (v .isBitmap)) in
     λ i.
     t .place .long i ∷ t .object .long i ∷ t .argument .long i ∷ t .initial .long i ∷ t .base .long i ∷ t .current .long i ∷ t .left .long i
     ∷ v .isLengths .arrivals i
+    ∷ one i
     ∷ m .exists .long i ∷ m .attribute .long i ∷ m .ceiling .long i ∷ m .holder .long i
     ∷ b .exists .long i ∷ b .attribute .long i ∷ b .bufsz .long i ∷ b .maxmsz .long i ∷ b .used .long i
     ∷ p .exists .long i ∷ p .attribute .long i ∷ p .count .long i ∷ p .size .long i

@@ -1,5 +1,5 @@
 -- A millisecond passes: a wait with one left ends, a longer one has one less, and one that has no end stays as it is.
-use Rattle.model.proofs.Terms.{ℕ, _≤_, pred, ℕ-discrete, arith, _≡_, inl, inr, tasks, endless, _!_, E-TMOUT, queue, facts, standsIn, World, Nothing, withKernel, tickTask, tick, perform, Priorities}
+use Rattle.model.proofs.Terms.{ℕ, _≤_, pred, ℕ-discrete, arith, _≡_, inl, inr, tasks, endless, _!_, E-TMOUT, queue, facts, standsIn, readyAt, readyBitmap, World, Nothing, withKernel, tickTask, tick, perform, Priorities, Bitmap}
 use Rattle.model.proofs.ByCase.{tick-none, tick-endless, tick-last, tick-more}
 use Rattle.model.specs.declared.call.Call.the-variants.{Tick}
 use Rattle.invariant.specs.Rows.{openTasks}
@@ -10,7 +10,7 @@ use Rattle.invariant.proofs.Waits.{ended}
 use Rattle.preservation.proofs.Keeps.{Keeps}
 
 pub ticks-task : {w : World} → Steady 0 w → (t : ℕ) → 1 ≤ t → t ≤ tasks → Steady 0 (tickTask w t)
-unfolding withKernel Priorities facts standsIn openTasks
+unfolding withKernel Priorities Bitmap readyBitmap readyAt facts standsIn openTasks
 ticks-task {w} s t low high = go (s .invariant .ofTasks .each t low high .time) (ℕ-discrete left 1)
   where
     left : ℕ
@@ -23,7 +23,7 @@ ticks-task {w} s t low high = go (s .invariant .ofTasks .each t low high .time) 
     go (inr (waits, inl range)) (yes e) = rw (tick-last w t e) (ended s t low high E-TMOUT Nothing (omega arith))
     go (inr (waits, inl range)) (no d) =
         rw (tick-more w t (λ (z : left ≡ 0). omega arith) d (λ (z : left ≡ endless). omega arith))
-        (record { invariant = timed (s .invariant) t low high (pred left) waits (inl (omega arith)); priorities = s .priorities })
+        (record { invariant = timed (s .invariant) t low high (pred left) waits (inl (omega arith)); priorities = s .priorities; bitmap = s .bitmap })
 
 pub ticks : {w : World} → Steady 0 w → Keeps w Tick
 unfolding perform tick

@@ -119,6 +119,7 @@ module _ (x : Lent) (v : Valid x) where
               ofPools = pools-kept;
             };
         priorities = v .isPriorities;
+        bitmap = v .isBitmap;
       }
 
 -- ---- to `Valid`
@@ -186,6 +187,7 @@ module _ (w : World) (s : Steady 0 w) where
         isWait = waits;
         isArrivals = listing-to j (inv .ofTasks .listing);
         isPriorities = s .priorities;
+        isBitmap = s .bitmap;
         isCeiling = ceilings;
         isLocking = λ t low high q. let l = inv .ofMutexes .waits t low high q in (l .other, l .taken);
         isGetting = λ t low high q. inv .ofPools .waits t low high q .none-free;

@@ -13,12 +13,11 @@ use Rattle.model.specs.Lists.{_!_}
 use Rattle.model.specs.Facts.{Facts}
 use Rattle.model.specs.Priority.{Linked, step, chain, linked, holderAwaited, ownPriority, effective, effectives}
 use Rattle.model.specs.Kernel.{Kernel, facts, standsIn, withTasks, withCurrents}
-use Rattle.model.specs.World.{recompute}
 use Rattle.priority.specs.Linked.{linked-agrees, bounded, goes-on}
 use Rattle.priority.specs.Least.{least-above}
 use Rattle.priority.specs.Effective.{awaited-ends, effective-own, effective-linked}
 use Rattle.priority.specs.Walk.{awaited, walked, raisedKernel}
-use Rattle.priority.specs.Afresh.{byTask, atOwn, passedOn}
+use Rattle.priority.specs.Afresh.{byTask, atOwn, passedOn, workedOut}
 use Rattle.priority.proofs.StepLaws.{LessUrgent, Stops, unvisited-most, by-steps}
 use Rattle.priority.proofs.StartLaws.{byTask-long, byTask-none, byTask-at, byTask-is}
 
@@ -219,6 +218,6 @@ pub passed-step : (k : Kernel) (n : ℕ) → passedOn (passedSoFar k n) (suc n) 
 unfolding passedSoFar passed passedOn raisedKernel withCurrents withTasks facts standsIn
 passed-step k n = refl
 
-pub passed-done : (k : Kernel) → length (facts k .place) ≡ suc tasks → passedSoFar (atOwn k) tasks ≡ recompute k
-unfolding passedSoFar atOwn recompute withCurrents withTasks facts standsIn
+pub passed-done : (k : Kernel) → length (facts k .place) ≡ suc tasks → passedSoFar (atOwn k) tasks ≡ workedOut k
+unfolding passedSoFar atOwn workedOut withCurrents withTasks facts standsIn
 passed-done k places = ap (withCurrents k) (passed-all (facts k) places)

@@ -17,7 +17,7 @@ use Rattle.model.specs.Number.{wordNumber, maybeMutex}
 use Rattle.model.specs.declared.number.MaybeMutex as mMutex
 use Rattle.model.proofs.NumberLaws.{Names, NamesNone, numbered-at, numbered-none}
 use Rattle.model.specs.Words.{wordCount, sizes, fields, kernel}
-use Rattle.state.proofs.WordLaws.{sized, size-of, currents-long}
+use Rattle.state.proofs.WordLaws.{places-long, sized, size-of, currents-long}
 use Rattle.state.specs.Words.{Represents}
 use Rattle.model.specs.Field as field
 use Rattle.priority.specs.Walk.{mutexAwaited, passesTo, awaited, raisedKernel}
@@ -31,8 +31,8 @@ stays k v p s = ap (withCurrents k) (sym (stops (awaited k) p (suc tasks) s))
 
 module _ (w : List ℕ) (l : length w ≡ wordCount) where
   pub place-length : length (facts (kernel w) .place) ≡ suc tasks
-  unfolding fields sizes facts
-  place-length = let h : length (kernel w .tasks .place) ≡ suc tasks = size-of (kernel w) (sized w l) field.place in simp length-drop (omega arith)
+  unfolding facts
+  place-length = let h = places-long w l in simp length-drop (omega arith)
 
   -- a number that names no mutex passes nothing on
   passes-none : (m : ℕ) → NamesNone mutexes m → passesTo (facts (kernel w)) m ≡ 0

@@ -4,7 +4,8 @@ use mathlib.Core.Bool.{cond}
 use mathlib.Core.List.{List, _∷_, map}
 use Rattle.model.specs.Sizes.{tasks}
 use Rattle.model.specs.Lists.{_!_, upTo, within}
-use Rattle.model.specs.Kernel.{Kernel, withCurrent, withCurrents}
+use Rattle.model.specs.Priority.{effectives}
+use Rattle.model.specs.Kernel.{Kernel, facts, withCurrent, withCurrents}
 use Rattle.priority.specs.Own.{ownOf, baseOf, ceilingHolder}
 use Rattle.priority.specs.Walk.{awaited, raisedKernel}
 
@@ -27,3 +28,7 @@ holderAtOwn k m = let h = ceilingHolder k m in cond (within 1 tasks h) (withCurr
 -- a task has passed its current priority on
 unfoldable pub passedOn : Kernel → ℕ → Kernel
 passedOn k t = raisedKernel k (awaited k t) (k .tasks .current ! t)
+
+-- every current priority is the effective one: `recompute` but for the bits
+unfoldable pub workedOut : Kernel → Kernel
+workedOut k = withCurrents k (effectives (facts k))

@@ -12,7 +12,7 @@ use Rattle.model.specs.World.{recompute}
 use Rattle.priority.specs.Linked.{linked-agrees, linked-trans}
 use Rattle.priority.specs.Least.{least-first, least-at, least-above}
 
--- the facts do not read current priorities, so a second recompute changes nothing
+-- the facts do not read current priorities or bits, so a second recompute changes nothing
 pub recompute-twice : (k : Kernel) → recompute (recompute k) ≡ recompute k
 unfolding recompute withCurrents withTasks facts standsIn
 recompute-twice k = refl

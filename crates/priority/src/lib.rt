@@ -7,6 +7,7 @@ use model::number::MaybeTask;
 use model::number::TaskNumber;
 use model::sizes::MUTEXES;
 use model::sizes::TASKS;
+use ready::renew_bits;
 use state::task;
 ghost use mathlib.Core.Path.{_≡_};
 ghost use Prim.Native.Nat.{_≤_};
@@ -17,13 +18,22 @@ ghost use Rattle.model.specs.World.{recompute};
 ghost use Rattle.model.specs.Words.{wordCount, kernel};
 ghost use Rattle.state.specs.Words.{Represents};
 ghost use Rattle.priority.specs.Own.{baseOf};
-ghost use Rattle.priority.specs.Afresh.{atBases, atOwn, holderAtOwn, passedOn};
+ghost use Rattle.priority.specs.Afresh.{atBases, atOwn, holderAtOwn, passedOn, workedOut};
 
-// Every current priority becomes the effective one, whatever the words hold: each starts from the task's own, and then each task passes its
-// current priority on.
+// Every current priority becomes the effective one, whatever the words hold, and the bits of the priorities that have a ready task go with
+// them.
 pub fn recompute(state: &mut [u32])
     requires { ⌜ length (now state) ≡ wordCount ⌝ }
     ensures { λ _. ⌜ Represents (now (state .exit)) (recompute (kernel (now (state .entry)))) ⌝ }
+{
+    work_out(state);
+    renew_bits(state);
+}
+
+// The current priorities alone: each starts from the task's own, and then each task passes its current priority on.
+pub fn work_out(state: &mut [u32])
+    requires { ⌜ length (now state) ≡ wordCount ⌝ }
+    ensures { λ _. ⌜ Represents (now (state .exit)) (workedOut (kernel (now (state .entry)))) ⌝ }
 {
     start_from_own(state);
     for n in 0..TASKS {

@@ -14,6 +14,7 @@ use Rattle.model.specs.Sizes.{tasks}
 use Rattle.model.specs.Lists.{_!_, zeros}
 use Rattle.model.specs.Facts.{queue}
 use Rattle.model.specs.Kernel.{Kernel, others, departed, arrived, withArrivals, withPlace, withObject}
+use Rattle.model.specs.World.{withFreshBit}
 use Rattle.model.specs.Act.{arrive}
 use Rattle.model.specs.Words.{wordCount, kernel}
 use Rattle.state.specs.Words.{withArrival, Represents}
@@ -252,13 +253,15 @@ arrives-last t w v u x j n g e s r =
     a : List ℕ
     a = kernel w .arrivals
 
-pub arrives : (t place object : ℕ) (w v u x : List ℕ) → Represents v (withPlace (kernel w) t place) → Represents u (withObject (kernel v) t object)
-    → Represents x (withArrivals (kernel u) (arrived t (kernel u .arrivals))) → Represents x (arrive (kernel w) t (queue place object))
-arrives t place object w v u x p o r =
+pub arrives : (t place object : ℕ) (w v u x y : List ℕ) → Represents v (withPlace (kernel w) t place) → Represents u (withObject (kernel v) t object)
+    → Represents x (withArrivals (kernel u) (arrived t (kernel u .arrivals))) → Represents y (withFreshBit (kernel x) (kernel x .tasks .current ! t))
+    → Represents y (arrive (kernel w) t (queue place object))
+arrives t place object w v u x y p o r b =
     record {
-      length = r .length;
+      length = b .length;
       kernel =
-          r .kernel
-          ∙ ap (λ (k : Kernel). withArrivals k (arrived t (k .arrivals))) (o .kernel ∙ ap (λ (k : Kernel). withObject k t object) (p .kernel))
+          b .kernel ∙ ap (λ (k : Kernel). withFreshBit k (k .tasks .current ! t))
+          (r .kernel
+          ∙ ap (λ (k : Kernel). withArrivals k (arrived t (k .arrivals))) (o .kernel ∙ ap (λ (k : Kernel). withObject k t object) (p .kernel)))
           ∙ (unfold arrive withArrivals withObject withPlace in refl);
     }

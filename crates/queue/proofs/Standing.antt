@@ -7,7 +7,7 @@ use mathlib.Core.Bool.{Bool, true, false, _&&_, false≢true, and-false}
 use mathlib.Core.List.{List}
 use lib.ListN.{length}
 use lib.Dec.{eqb, leb, ltb}
-use borrow.Author.Tests.{eq-eqb, ne-eqb, le-leb, lt-leb, leb-true, lt-ltb, le-ltb}
+use borrow.Author.Tests.{eq-eqb, ne-eqb, eqb-true, le-leb, lt-leb, leb-true, lt-ltb, le-ltb}
 use Rattle.model.specs.Sizes.{tasks}
 use Rattle.model.specs.Lists.{_!_, within}
 use Rattle.model.specs.Facts.{Facts, Queue, queue, ready, locking, sending, getting}
@@ -66,6 +66,11 @@ unfolding standsIn
 stands-task k q u e =
     let a = and-left (within 1 tasks u) (eqb (k .tasks .place ! u) (q .place)) (and-left _ (eqb (k .tasks .object ! u) (q .object)) e) in
     (leb-true 1 u (and-left (leb 1 u) (leb u tasks) a), leb-true u tasks (and-right (leb 1 u) (leb u tasks) a))
+
+-- and stands at its place
+pub stands-place : (k : Kernel) (q : Queue) (u : ℕ) → standsIn k q u ≡ true → k .tasks .place ! u ≡ q .place
+unfolding standsIn
+stands-place k q u e = eqb-true _ _ (and-right (within 1 tasks u) _ (and-left _ (eqb (k .tasks .object ! u) (q .object)) e))
 
 -- ---- which queues go by priority
 

@@ -2,6 +2,7 @@
 // order is never used up.
 use model::number::TaskNumber;
 use model::sizes::PLACES;
+use ready::renew_bit;
 use state::arrival::set_task;
 use state::arrival::task;
 ghost use mathlib.Core.Path.{_≡_};
@@ -72,7 +73,7 @@ pub fn arrive_last(state: &mut [u32], t: TaskNumber)
     clear(state, j + 1);
 }
 
-// The task arrives in the queue of an object.
+// The task arrives in the queue of an object. It becomes ready or is so no more, so the bit of its priority is renewed.
 pub fn arrive(state: &mut [u32], t: TaskNumber, place: u32, object: u32)
     requires { ⌜ length (now state) ≡ wordCount ⌝ }
     ensures { λ r. ⌜ Represents (now (state .exit)) (arriving (kernel (now (state .entry))) (t .0) (queue place object)) ⌝ }
@@ -80,4 +81,5 @@ pub fn arrive(state: &mut [u32], t: TaskNumber, place: u32, object: u32)
     state::task::set_place(state, t, place);
     state::task::set_object(state, t, object);
     arrive_last(state, t);
+    renew_bit(state, t);
 }

@@ -11,7 +11,7 @@ use Rattle.model.specs.Lists.{_!_, firstWhere}
 use Rattle.model.specs.Code.{number}
 use Rattle.model.specs.Kernel.{Kernel, slot}
 use Rattle.model.specs.Refusal.{freeBlock, handedOut}
-use Rattle.search.proofs.Rest.{numbers, rest-all, rest-here, rest-done}
+use Rattle.model.proofs.Rest.{numbers, rest-all, rest-here, rest-done}
 use Rattle.search.proofs.Searches.{isZero, zero-here, zero-later}
 use Rattle.search.proofs.Sums.{not-above}
 

@@ -1,4 +1,3 @@
-pub mod Rest
 pub mod Searches
 pub mod Sums
 pub mod Blocks

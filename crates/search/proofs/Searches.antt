@@ -12,7 +12,7 @@ use Rattle.model.specs.Act.{unused}
 use Rattle.model.proofs.ListLaws.{or-left}
 use Rattle.model.proofs.ByCase.{first-here, first-later}
 use Rattle.model.proofs.NumberLaws.{Kind, named, word-in-range}
-use Rattle.search.proofs.Rest.{numbers, Rest, kind-all, kind-here, kind-more, kind-never, kind-done}
+use Rattle.model.proofs.Rest.{numbers, Rest, kind-all, kind-here, kind-more, kind-never, kind-done}
 
 -- ---- the first that is 0
 

@@ -14,7 +14,7 @@ use Rattle.model.specs.Lists.{sum, upTo}
 use Rattle.model.specs.Number.{wordNumber}
 use Rattle.model.proofs.ListLaws.{bool-ext}
 use Rattle.model.proofs.NumberLaws.{Kind}
-use Rattle.search.proofs.Rest.{Rest, kind-all, kind-here, kind-more, kind-never, kind-done}
+use Rattle.model.proofs.Rest.{Rest, kind-all, kind-here, kind-more, kind-never, kind-done}
 
 -- the product of two words
 pub product-fits : (a b : ℕ) → a < 2 ^ 32 → b < 2 ^ 32 → Fits w64 (a * b)

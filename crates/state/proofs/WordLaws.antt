@@ -1,10 +1,11 @@
 -- Laws of the state as words: nothing is lost between the words and the kernel. Assumes nothing.
 use Prim.Native.Nat.{ℕ, suc}
-use mathlib.Core.Path.{_≡_, _∙_, sym, ap}
-use mathlib.Core.List.{List, [], map}
-use lib.ListN.{length, getD, List·getD-map}
+use native.Mathlib.Omega.{arith}
+use mathlib.Core.Path.{_≡_, _∙_, refl, sym, ap}
+use mathlib.Core.List.{List, [], _∷_, map}
+use lib.ListN.{length, getD, set, List·getD-map}
 use Rattle.model.specs.Sizes.{tasks, mutexes, buffers, pools}
-use Rattle.model.specs.Lists.{joined, sum}
+use Rattle.model.specs.Lists.{_!_, joined, sum}
 use Rattle.model.specs.Kernel.{Kernel}
 use Rattle.model.specs.Words.{cut, sizes, wordCount, fromFields, fields, kernel, words}
 use Rattle.model.specs.Field as field
@@ -42,9 +43,22 @@ module _ (k : Kernel) (s : Sized k) where
   unfolding Sized
   size-of f = sym (List·getD-map length (fields k) f []) ∙ ap (λ ns. getD ns f 0) s
 
+-- a list of one word is that word, and a store in it leaves the stored one
+pub one-word : (xs : List ℕ) → length xs ≡ 1 → xs ≡ xs ! 0 ∷ []
+one-word [] h = absurd (omega arith)
+one-word (x ∷ []) h = refl
+one-word (x ∷ y ∷ xs) h = absurd (omega arith)
+
+pub one-stored : (xs : List ℕ) (v : ℕ) → length xs ≡ 1 → set xs 0 v ≡ v ∷ []
+one-stored xs v h = rw (one-word xs h)
+
 -- ---- how long the lists of any words of a state are
 
 module _ (w : List ℕ) (h : length w ≡ wordCount) where
+  pub places-long : length (kernel w .tasks .place) ≡ suc tasks
+  unfolding fields sizes
+  places-long = size-of (kernel w) (sized w h) field.place
+
   pub currents-long : length (kernel w .tasks .current) ≡ suc tasks
   unfolding fields sizes
   currents-long = size-of (kernel w) (sized w h) field.current
@@ -52,6 +66,10 @@ module _ (w : List ℕ) (h : length w ≡ wordCount) where
   pub arrivals-long : length (kernel w .arrivals) ≡ tasks
   unfolding fields sizes
   arrivals-long = size-of (kernel w) (sized w h) field.arrivals
+
+  pub bitmap-long : length (kernel w .bitmap) ≡ 1
+  unfolding fields sizes
+  bitmap-long = size-of (kernel w) (sized w h) field.bitmap
 
   pub mutexes-long : length (kernel w .mutexes .attribute) ≡ suc mutexes
   unfolding fields sizes

@@ -11,10 +11,13 @@ ghost use lib.ListN.{length};
 ghost use Rattle.model.specs.Lists.{zeros};
 ghost use Rattle.state.specs.Layout.{entry, withEntry};
 
-// How many words a field has: one for each number, and one for 0, which stands for none. The arrival order has a place for each task.
+// How many words a field has: one for each number, and one for 0, which stands for none. The arrival order has a place for each task; the
+// bits of all priorities are one word.
 pub(crate) const TASK_SLOTS: usize = TASKS as usize + 1;
 
 pub(crate) const ARRIVAL_SLOTS: usize = PLACES;
+
+pub(crate) const BITMAP_SLOTS: usize = 1;
 
 pub(crate) const MUTEX_SLOTS: usize = MUTEXES as usize + 1;
 
@@ -43,7 +46,9 @@ pub(crate) const LEFT: usize = CURRENT + TASK_SLOTS;
 
 pub(crate) const ARRIVALS: usize = LEFT + TASK_SLOTS;
 
-pub(crate) const MUTEX_EXISTS: usize = ARRIVALS + ARRIVAL_SLOTS;
+pub(crate) const BITMAP: usize = ARRIVALS + ARRIVAL_SLOTS;
+
+pub(crate) const MUTEX_EXISTS: usize = BITMAP + BITMAP_SLOTS;
 
 pub(crate) const MUTEX_ATTRIBUTE: usize = MUTEX_EXISTS + MUTEX_SLOTS;
 

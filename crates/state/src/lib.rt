@@ -1,6 +1,7 @@
 // The kernel's state: lent words of one fixed length, read as the kernel of the definitions. A getter and a setter for each field stand
 // in the modules; the state is made here.
 pub mod arrival;
+pub mod bitmap;
 pub mod buffer;
 pub mod layout;
 pub mod mutex;
@@ -14,6 +15,8 @@ ghost use Rattle.state.specs.Fresh.{Filling};
 const FIRST: usize = 1;
 
 const PRIORITY: u32 = 8;
+
+const PRIORITY_BIT: u32 = 1 << (PRIORITY - 1);
 
 // Whether an area was filled, or left alone because it has not the length of a state.
 pub enum Filled {
@@ -40,5 +43,6 @@ pub fn fresh(state: &mut [u32]) -> Filled
         0,
         FIRST as u32,
     );
+    layout::put(state, layout::BITMAP, layout::BITMAP_SLOTS, 0, PRIORITY_BIT);
     Filled::Done
 }

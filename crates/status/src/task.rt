@@ -23,6 +23,7 @@ ghost use Prim.Native.Nat.{suc, _<_};
 ghost use mathlib.Core.Path.{_≡_};
 ghost use lib.ListN.{length};
 ghost use Rattle.model.specs.Sizes.{tasks};
+ghost use Rattle.model.specs.Valid.{Bitmap};
 ghost use Rattle.model.specs.Words.{wordCount, kernel};
 ghost use Rattle.status.specs.Rows.{Asked, isThere, taskState, awaitedKind, TimeFits, shownTime, taskRow};
 
@@ -41,6 +42,7 @@ pub fn is_there(state: &[u32], i: usize) -> bool
 // "1 running, 2 ready, 4 waiting, 16 dormant".
 fn task_state(state: &[u32], t: TaskNumber) -> u32
     requires { ⌜ length (now state) ≡ wordCount ⌝ }
+    requires { ⌜ Bitmap (kernel (now state)) ⌝ }
     ensures { λ r. ⌜ r ≡ taskState (kernel (now (state .entry))) (t .0) ⌝ }
 {
     let place = state::task::place(state, t);

@@ -57,9 +57,10 @@ buffer-tests k b e f = rw (e, f) (asked-together (bufferTests k) b)
 abbrev clause : Lent → ℕ → Bool
 clause x i = getD (clauses x) i true
 
-pub clause-tests : (x : Lent) {a b c d e f g h i j : Bool} → a ≡ clause x 0 → b ≡ clause x 1 → c ≡ clause x 2 → d ≡ clause x 3 → e ≡ clause x 4
-    → f ≡ clause x 5 → g ≡ clause x 6 → h ≡ clause x 7 → i ≡ clause x 8 → j ≡ clause x 9 → a && b && c && d && e && f && g && h && i && j ≡ joinedFlags (clauses x)
-clause-tests x p q r s t u v w y z = rw (p, q, r, s, t, u, v, w, y, z)
+pub clause-tests : (x : Lent) {a b c d e f g h i j k : Bool} → a ≡ clause x 0 → b ≡ clause x 1 → c ≡ clause x 2 → d ≡ clause x 3 → e ≡ clause x 4
+    → f ≡ clause x 5 → g ≡ clause x 6 → h ≡ clause x 7 → i ≡ clause x 8 → j ≡ clause x 9 → k ≡ clause x 10
+    → a && b && c && d && e && f && g && h && i && j && k ≡ joinedFlags (clauses x)
+clause-tests x o p q r s t u v w y z = rw (o, p, q, r, s, t, u, v, w, y, z)
 
 -- ---- whatever is lent
 

@@ -2,20 +2,22 @@
 use Prim.Native.Nat.{ℕ, zero, suc, _+_, _≤_, _<_}
 use native.Mathlib.Numerals.{add-one}
 use native.Mathlib.Omega.{arith}
-use mathlib.Core.Path.{_≡_, _∙_, refl, sym, ap}
-use mathlib.Core.Bool.{Bool}
-use mathlib.Core.List.{List, append-nil}
+use mathlib.Core.Path.{_≡_, _∙_, refl, sym, ap, ap₂}
+use mathlib.Core.Bool.{Bool, and-true}
+use mathlib.Core.List.{List, [], _∷_, append-nil}
 use lib.ListN.{length, set, length-map, length-set, drop-of-length-le}
 use lib.Seq.{take-all, ext-getD, paste, paste-zero, paste-suc}
 use lib.Dec.{eqb}
 use Rattle.model.specs.Sizes.{tasks}
 use Rattle.model.specs.Lists.{_!_, all, same, upTo}
 use Rattle.model.specs.Priority.{effective, effectives}
+use Rattle.model.specs.Queue.{readyBitmap}
 use Rattle.model.specs.Kernel.{Kernel, facts, withTasks, withCurrents}
-use Rattle.model.specs.World.{recompute}
-use Rattle.model.specs.Valid.{Each, TaskLists, currentPriorities}
+use Rattle.model.specs.Valid.{Each, TaskLists, currentPriorities, rightBitmap}
 use Rattle.model.proofs.ListLaws.{bool-ext, length-countFrom}
-use Rattle.model.specs.Words.{kernel}
+use Rattle.model.specs.Words.{wordCount, kernel}
+use Rattle.state.proofs.WordLaws.{bitmap-long, one-word}
+use Rattle.priority.specs.Afresh.{workedOut}
 use Rattle.valid.specs.Tests.{eq-agrees, each-agrees, same-agrees}
 use Rattle.valid.specs.Parts.{sameCurrent}
 
@@ -66,10 +68,17 @@ effectives-long k = ap suc (length-map (upTo tasks) (effective (facts k)) ∙ le
 pub afresh-long : (w copy : List ℕ) (n : ℕ) → copy ≡ w → length w ≡ n → length copy ≡ n
 afresh-long w copy n e h = ap length e ∙ h
 
-pub afresh-same : (w copy : List ℕ) (afresh : Kernel) (r : Bool) → TaskLists (kernel w .tasks) → copy ≡ w → afresh ≡ recompute (kernel copy)
+pub afresh-same : (w copy : List ℕ) (afresh : Kernel) (r : Bool) → TaskLists (kernel w .tasks) → copy ≡ w → afresh ≡ workedOut (kernel copy)
     → r ≡ all (sameCurrent (kernel w) afresh) (upTo tasks) → r ≡ currentPriorities (kernel w)
-unfolding currentPriorities recompute withCurrents withTasks effectives
+unfolding currentPriorities workedOut withCurrents withTasks effectives
 afresh-same w copy afresh r h e f q =
     let k = kernel w in
     let current = h .current in
     q ∙ rw (f, e) (by-task (k .tasks .current) (effectives (facts k)) (current .long) (effectives-long k) (current .noneZero) refl)
+
+-- the word of bits is compared with the one worked out
+pub bits-same : (w : List ℕ) (word afresh : ℕ) → length w ≡ wordCount → word ≡ kernel w .bitmap ! 0
+    → afresh ≡ readyBitmap (facts (kernel w)) (kernel w .tasks .current) → eqb word afresh ≡ rightBitmap (kernel w)
+unfolding rightBitmap
+bits-same w word afresh h e f =
+    ap₂ eqb e f ∙ sym (and-true _) ∙ sym (ap (λ (xs : List ℕ). same xs (readyBitmap (facts (kernel w)) (kernel w .tasks .current) ∷ [])) (one-word (kernel w .bitmap) (bitmap-long w h)))

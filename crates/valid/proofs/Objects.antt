@@ -18,9 +18,6 @@ use Rattle.model.specs.Refusal.{aboveCeiling}
 use Rattle.model.specs.Valid.{awaitable, ceiling}
 use Rattle.model.specs.declared.number.MaybeTask.{MaybeTask}
 use Rattle.model.proofs.NumberLaws.{NamesNone, Kind, taskKind, named, unnamed}
-use Rattle.model.specs.Words.{wordCount, sizes, fields, kernel}
-use Rattle.state.proofs.WordLaws.{sized, size-of}
-use Rattle.model.specs.Field as field
 
 -- ---- an entry by a word: the object's, or 0 where entry 0 is
 
@@ -37,10 +34,6 @@ module _ {A : Type 0} (kind : Kind A) (xs : List ℕ) (u : ℕ) {found : A} (mad
       sym (beyond (kind .last) xs u long (unnamed kind made none) (λ e. ap (λ (i : ℕ). xs ! i) e ∙ zero))
 
 -- ---- who may hold a mutex
-
-pub places-long : (w : List ℕ) → length w ≡ wordCount → length (kernel w .tasks .place) ≡ suc tasks
-unfolding fields sizes
-places-long w h = size-of (kernel w) (sized w h) field.place
 
 module _ (places : List ℕ) (n : ℕ) where
   pub hold-none : n ≡ 0 → true ≡ eqb n 0 || leb ready (places ! n)

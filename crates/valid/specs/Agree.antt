@@ -12,12 +12,13 @@ use Rattle.model.specs.Sizes.{tasks, priorities, mutexes, buffers, pools, block
 use Rattle.model.specs.Lists.{_!_, upTo, countFrom, all, member, occurrences, implies, padded, select}
 use Rattle.model.specs.Facts.{absent, dormant, ready, locking, sending, receiving, getting, ceilinged}
 use Rattle.model.specs.Priority.{effectives}
+use Rattle.model.specs.Queue.{readyBitmap}
 use Rattle.model.specs.Kernel.{Kernel, facts, slot}
 use Rattle.model.specs.World.{Lent}
 use Rattle.model.specs.Message.{part, region}
 use Rattle.model.specs.Act.{firstFits}
 use Rattle.model.specs.Refusal.{aboveCeiling, freeBlock, poolSum, mutexAttributes, bufferAttributes, poolAttributes}
-use Rattle.model.specs.Valid.{Each, taskLists, mutexLists, bufferLists, poolLists, ByNumber, TaskLists, MutexLists, BufferLists, PoolLists, lists, Lengths, lengths, TaskRange, taskRange, MutexRange, mutexRange, BufferRange, bufferRange, PoolRange, poolRange, BlockFlag, blockFlag, Argument, argument, Wait, waitFields, awaitable, Arrivals, arrivals, Priorities, currentPriorities, Ceiling, ceiling, Locking, lockingTask, Getting, gettingTask, Receiving, receivingTask, FirstSender, firstSender, Outbox, outboxPart, RegionLayout, regionLayout, Valid, valid}
+use Rattle.model.specs.Valid.{Each, taskLists, mutexLists, bufferLists, poolLists, ByNumber, TaskLists, MutexLists, BufferLists, PoolLists, lists, Lengths, lengths, TaskRange, taskRange, MutexRange, mutexRange, BufferRange, bufferRange, PoolRange, poolRange, BlockFlag, blockFlag, Argument, argument, Wait, waitFields, awaitable, Arrivals, arrivals, Priorities, currentPriorities, Bitmap, rightBitmap, Ceiling, ceiling, Locking, lockingTask, Getting, gettingTask, Receiving, receivingTask, FirstSender, firstSender, Outbox, outboxPart, RegionLayout, regionLayout, Valid, valid}
 use Rattle.model.proofs.FlagLaws.{joined-every, flag-set}
 use Rattle.message.proofs.Layouts.{layout-valid, valid-layout}
 use Rattle.valid.specs.Tests.{Agrees, itself, fails, and-agrees, or-agrees, implies-agrees, and3, and4, and5, eq-agrees, ne-agrees, le-agrees, lt-agrees, within-agrees, each-agrees, each-within, to-agrees, entries-agree, same-agrees, none-agrees, zero-agrees}
@@ -153,6 +154,10 @@ module _ (k : Kernel) where
   unfolding currentPriorities Priorities
   priorities-agree = same-agrees (k .tasks .current) (effectives (facts k))
 
+  pub bitmap-agrees : Agrees (rightBitmap k) (Bitmap k)
+  unfolding rightBitmap Bitmap
+  bitmap-agrees = same-agrees (k .bitmap) (readyBitmap (facts k) (k .tasks .current) ∷ [])
+
   pub ceiling-agrees : (t m : ℕ) → Agrees (ceiling k t m) (Ceiling k t m)
   unfolding ceiling Ceiling
   ceiling-agrees t m = fails (aboveCeiling k (k .tasks .base ! t) t m)
@@ -240,6 +245,7 @@ asDefined x =
     ∷ all (argument k) (upTo tasks) ∷ all (waitFields k) (upTo tasks)
     ∷ arrivals k
     ∷ currentPriorities k
+    ∷ rightBitmap k
     ∷ all (λ t. all (ceiling k t) (upTo mutexes)) (upTo tasks) ∷ all (lockingTask k) (upTo tasks)
     ∷ all (gettingTask k) (upTo tasks) ∷ all (receivingTask k) (upTo tasks) ∷ all (firstSender k) (upTo buffers)
     ∷ all (regionLayout k (x .store)) (upTo buffers) ∷ all (outboxPart k (x .outbox)) (upTo tasks)
@@ -280,6 +286,7 @@ module _ (x : Lent) where
       let waits = each-agrees (waitFields k) (Wait k) (wait-agrees k) tasks in
       let arrived = arrivals-agree k in
       let current = priorities-agree k in
+      let bits = bitmap-agrees k in
       let ceilings = each-agrees (λ t. all (ceiling k t) (upTo mutexes)) (λ t. Each mutexes (Ceiling k t)) (λ t. each-agrees (ceiling k t) (Ceiling k t) (ceiling-agrees k t) mutexes) tasks in
       let locks = each-agrees (lockingTask k) (Locking k) (locking-agrees k) tasks in
       let gets = each-agrees (gettingTask k) (Getting k) (getting-agrees k) tasks in
@@ -305,19 +312,20 @@ module _ (x : Lent) where
               isWait = waits .0 (at 12);
               isArrivals = arrived .0 (at 13);
               isPriorities = current .0 (at 14);
-              isCeiling = ceilings .0 (at 15);
-              isLocking = locks .0 (at 16);
-              isGetting = gets .0 (at 17);
-              isReceiving = receives .0 (at 18);
-              isFirstSender = sends .0 (at 19);
-              isLayout = regions-agree n r .0 (at 20);
-              isOutbox = parts-agree n .0 (at 21);
+              isBitmap = bits .0 (at 15);
+              isCeiling = ceilings .0 (at 16);
+              isLocking = locks .0 (at 17);
+              isGetting = gets .0 (at 18);
+              isReceiving = receives .0 (at 19);
+              isFirstSender = sends .0 (at 20);
+              isLayout = regions-agree n r .0 (at 21);
+              isOutbox = parts-agree n .0 (at 22);
             }),
         (λ v.
             joined-every (asDefined x)
             ∙ (ofTasks .1 (v .isTaskLists) also ofMutexes .1 (v .isMutexLists) also ofBuffers .1 (v .isBufferLists) also ofPools .1 (v .isPoolLists) also long .1 (v .isLengths)
             also task .1 (v .isTaskRange) also mutex .1 (v .isMutexRange) also buffer .1 (v .isBufferRange) also pool .1 (v .isPoolRange) also flags .1 (v .isBlockFlag) also total .1 (v .isPoolSum)
-            also args .1 (v .isArgument) also waits .1 (v .isWait) also arrived .1 (v .isArrivals) also current .1 (v .isPriorities) also ceilings .1 (v .isCeiling)
+            also args .1 (v .isArgument) also waits .1 (v .isWait) also arrived .1 (v .isArrivals) also current .1 (v .isPriorities) also bits .1 (v .isBitmap) also ceilings .1 (v .isCeiling)
             also locks .1 (v .isLocking) also gets .1 (v .isGetting) also receives .1 (v .isReceiving) also sends .1 (v .isFirstSender)
             also regions-agree (v .isLengths) (v .isBufferRange) .1 (v .isLayout) also parts-agree (v .isLengths) .1 (v .isOutbox) also refl)),
       )

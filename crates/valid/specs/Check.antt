@@ -10,7 +10,7 @@ use Rattle.model.specs.Lists.{all, countFrom, upTo}
 use Rattle.model.specs.Kernel.{Kernel}
 use Rattle.model.specs.World.{Lent}
 use Rattle.model.specs.Refusal.{poolSum}
-use Rattle.model.specs.Valid.{lists, taskLists, mutexLists, bufferLists, poolLists, lengths, taskRange, mutexRange, bufferRange, poolRange, blockFlag, argument, waitFields, arrivals, currentPriorities, ceiling, lockingTask, gettingTask, receivingTask, firstSender, regionLayout, outboxPart, valid}
+use Rattle.model.specs.Valid.{lists, taskLists, mutexLists, bufferLists, poolLists, lengths, taskRange, mutexRange, bufferRange, poolRange, blockFlag, argument, waitFields, arrivals, currentPriorities, rightBitmap, ceiling, lockingTask, gettingTask, receivingTask, firstSender, regionLayout, outboxPart, valid}
 use Rattle.model.specs.Flags.{every, joinedFlags, passes}
 use Rattle.model.proofs.FlagLaws.{joined-every, test-by-test, every-append, same-flags}
 use Rattle.model.specs.Words.{wordCount}
@@ -48,6 +48,7 @@ clauses x =
     ∷ leb (poolSum k) poolBytes
     ∷ arrivals k
     ∷ currentPriorities k
+    ∷ rightBitmap k
     ∷ all (regionLayout k (x .store)) (upTo buffers)
     ∷ all (outboxPart k (x .outbox)) (upTo tasks)
     ∷ []
@@ -68,7 +69,7 @@ module _ (x : Lent) where
 
   abbrev ofOthers : List Bool
   ofOthers =
-      all (poolRange k) (upTo pools) ∷ blockFlags k ∷ leb (poolSum k) poolBytes ∷ arrivals k ∷ currentPriorities k
+      all (poolRange k) (upTo pools) ∷ blockFlags k ∷ leb (poolSum k) poolBytes ∷ arrivals k ∷ currentPriorities k ∷ rightBitmap k
       ∷ all (regionLayout k (x .store)) (upTo buffers) ∷ all (outboxPart k (x .outbox)) (upTo tasks) ∷ []
 
   abbrev byKind : List Bool
@@ -77,8 +78,8 @@ module _ (x : Lent) where
   reordered : every (asDefined x) ≡ every byKind
   reordered =
       same-flags
-      (4 ∷ 0 ∷ 1 ∷ 2 ∷ 3 ∷ 5 ∷ 11 ∷ 12 ∷ 15 ∷ 16 ∷ 17 ∷ 18 ∷ 6 ∷ 7 ∷ 19 ∷ 8 ∷ 9 ∷ 10 ∷ 13 ∷ 14 ∷ 20 ∷ 21 ∷ [])
-      (1 ∷ 2 ∷ 3 ∷ 4 ∷ 0 ∷ 5 ∷ 12 ∷ 13 ∷ 15 ∷ 16 ∷ 17 ∷ 6 ∷ 7 ∷ 18 ∷ 19 ∷ 8 ∷ 9 ∷ 10 ∷ 11 ∷ 14 ∷ 20 ∷ 21 ∷ [])
+      (4 ∷ 0 ∷ 1 ∷ 2 ∷ 3 ∷ 5 ∷ 11 ∷ 12 ∷ 16 ∷ 17 ∷ 18 ∷ 19 ∷ 6 ∷ 7 ∷ 20 ∷ 8 ∷ 9 ∷ 10 ∷ 13 ∷ 14 ∷ 15 ∷ 21 ∷ 22 ∷ [])
+      (1 ∷ 2 ∷ 3 ∷ 4 ∷ 0 ∷ 5 ∷ 12 ∷ 13 ∷ 15 ∷ 16 ∷ 17 ∷ 6 ∷ 7 ∷ 18 ∷ 19 ∷ 20 ∷ 8 ∷ 9 ∷ 10 ∷ 11 ∷ 14 ∷ 21 ∷ 22 ∷ [])
       (asDefined x) byKind refl refl
 
   grouped : (len : Bool) (ls ts : List Bool) (m : Bool) (bs os : List Bool)

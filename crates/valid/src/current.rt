@@ -1,14 +1,17 @@
-// 01, "Sound": "priorities [..] as worked out afresh". They are worked out on a copy, and the copy's are compared.
+// 01, "Sound": "priorities [..] as worked out afresh", and by 02, request Three, "the bits as worked out afresh". Priorities are worked out on a
+// copy, and the copy's are compared.
 use model::number::MaybeTask;
 use model::number::TaskNumber;
 use model::sizes::TASKS;
-use priority::recompute;
+use priority::work_out;
+use ready::fresh_bits;
+use state::bitmap::bits;
 use state::layout::WORDS;
 ghost use mathlib.Core.Path.{_≡_};
 ghost use lib.ListN.{length};
 ghost use Rattle.model.specs.Sizes.{tasks};
 ghost use Rattle.model.specs.Lists.{all, upTo};
-ghost use Rattle.model.specs.Valid.{TaskLists, currentPriorities};
+ghost use Rattle.model.specs.Valid.{TaskLists, currentPriorities, rightBitmap};
 ghost use Rattle.model.specs.Words.{wordCount, kernel};
 ghost use Rattle.valid.specs.Parts.{sameCurrent};
 
@@ -54,6 +57,13 @@ pub(crate) fn priorities(state: &[u32]) -> bool
 {
     let mut afresh = [0; WORDS];
     copy(state, &mut afresh);
-    recompute(&mut afresh);
+    work_out(&mut afresh);
     same_currents(state, &afresh)
+}
+
+pub(crate) fn bitmap(state: &[u32]) -> bool
+    requires { ⌜ length (now state) ≡ wordCount ⌝ }
+    ensures { λ r. ⌜ r ≡ rightBitmap (kernel (now (state .entry))) ⌝ }
+{
+    bits(state) == fresh_bits(state)
 }

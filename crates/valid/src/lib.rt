@@ -1,4 +1,4 @@
-// The check of a lent state: whether it and the two lent areas are valid, 01's "Sound".
+// The check of a lent state: whether it and the two lent areas are valid, 01's "Sound" with what 02 adds to it.
 mod arrival;
 mod ceiling;
 mod current;
@@ -60,6 +60,7 @@ fn clauses_hold(state: &[u32], store: &[u8], outbox: &[u8]) -> bool
         & pool::pools_fit(state)
         & arrival::arrivals(state)
         & current::priorities(state)
+        & current::bitmap(state)
         & regions_laid_out(state, store)
         & outbox_laid_out(state, outbox)
 }

@@ -6,16 +6,19 @@ use std::io::{self, BufWriter, Write};
 use std::process::ExitCode;
 
 use reference::boundary::BOUNDARIES;
-use reference::clauses::CLAUSES;
+use reference::clauses::{Clause, CLAUSES};
 use reference::lent_state::State;
-use reference::states::{state, state_at_boundary, state_failing, Kind};
+use reference::states::{
+    state, state_at_boundary, state_failing, state_with_wrong_bit, wrong_bits, Kind,
+};
 
 const USAGE: &str = "usage: states SEED COUNT FILE_IN FILE_OUT [--each-clause N]
   SEED, COUNT       the states 0 to COUNT - 1 of that seed
   FILE_IN           gets a frame for each state
   FILE_OUT          gets a line for each state: 1 if it is valid, else 0
-  --each-clause N   puts in front, for each clause of validity, N states that fail it alone, and
-                    for each boundary of a range N valid states at it";
+  --each-clause N   puts in front, for each clause of validity, N states that fail it alone, for
+                    each boundary of a range N valid states at it, and for each bit of the bitmap
+                    that can be wrong a state at which it alone is";
 
 struct Options {
     seed: u64,
@@ -92,6 +95,12 @@ fn run(options: &Options) -> io::Result<()> {
         for index in 0..options.each_clause {
             let state = state_at_boundary(boundary, options.seed, index);
             writer.write(Kind::AtBoundary(boundary), &state)?;
+        }
+    }
+    if options.each_clause > 0 {
+        for wrong in wrong_bits() {
+            let state = state_with_wrong_bit(wrong, options.seed, 0);
+            writer.write(Kind::Fails(Clause::Bitmap), &state)?;
         }
     }
     for index in 0..options.count {

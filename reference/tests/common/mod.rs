@@ -7,6 +7,7 @@ use std::process::{Command, Stdio};
 use reference::ledger::Ledger;
 use reference::limits::*;
 use reference::number::TaskNo;
+use reference::words::{at, PER_TASK, READY};
 use reference::{check, Answer, Call, Got, Kernel, Outcome};
 
 /// The last task, the least urgent priority and the most blocks of a pool, as fields of calls.
@@ -193,6 +194,18 @@ pub fn script(calls: &[Call]) -> Vec<u8> {
         call.write(&mut bytes);
     }
     bytes
+}
+
+/// The bitmap as a state's words tell it: of each ready task the bit of its current priority, where
+/// that is 1 to 16.
+pub fn bitmap_by_words(words: &[u32]) -> u32 {
+    (1..PER_TASK).filter(|&t| words[at::PLACE + t] == READY).fold(0, |bits, t| {
+        let bit = match words[at::CURRENT + t] {
+            priority @ 1..=16 => 1 << (priority - 1),
+            _ => 0,
+        };
+        bits | bit
+    })
 }
 
 /// What a program writes for an input.

@@ -2,7 +2,7 @@
 use borrow.Author.Tests.{not-true, not-false}
 use borrow.Author.Needs.{needs}
 use Rattle.act.specs.Held.{areas}
-use Rattle.call.proofs.Calling.{calls-untouched, calls-not-valid, calls-words, calls-ready, calls-steps}
+use Rattle.call.proofs.Calling.{calls-untouched, calls-not-valid, calls-bits, calls-ready, calls-steps}
 use Rattle.call.proofs.call.Statement.{statement}
 use Rattle.call.proofs.call.Tie as tie
 
@@ -18,7 +18,7 @@ returns-2 c =
 next-to-run-requires : tie.Need-next-to-run-requires
 next-to-run-requires c κs =
     let g = c .before .before .before .before .before .before .before .before .before .before .before .before .args in
-    calls-words (areas (g .state .now) (g .store .now) (g .outbox .now) (g .log .now)) (g .call) (g .message .now)
+    calls-bits (areas (g .state .now) (g .store .now) (g .outbox .now) (g .log .now)) (g .call) (g .message .now)
     (c .before .before .before .before .before .before .if1 .left) (c .before .before .is-valid .ensures) (not-false _ (c .before .if2 .left))
 
 valid-step-requires : tie.Need-valid-step-requires

@@ -16,7 +16,7 @@ returns-2 c =
     let d = c .before .before .before .before .before in
     let e = d .before .before .before .before in
     let h = e .before .before .before .before .before .before .pre in
-    releases-quiet (e .before .word .ensures) (e .front .ensures) (h .0) (h .1 .0) (h .1 .1) (d .before .before .enum-told .given .1) (d .attribute .ensures)
+    releases-quiet (e .before .word .ensures) (e .front .ensures) (h .0) (h .1 .0) (h .1 .1 .0) (h .1 .1 .1) (d .before .before .enum-told .given .1) (d .attribute .ensures)
     (c .if1 .left) (c .before .before .before .set-holder .ensures)
 
 returns-3 : tie.Need-returns-3

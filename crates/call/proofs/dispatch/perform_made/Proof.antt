@@ -77,7 +77,7 @@ loc-mtx-requires c κs =
     let h = d .before .before .before .before .before .before .before .before .pre in
     let v = made-valid (h .0) in
     let free = made-allowed (two LocMtx _ _ (d .before .call8 .given .1) (d .known-told8 .given .0 .1) (d .known-told8 .given .1 .0 .1)) (h .0) in
-    (h .0 .words, (h .1 .0, (free, (v .isPriorities, v .isLocking))))
+    (h .0 .words, (h .1 .0, (free, (v .isPriorities, (v .isBitmap, v .isLocking)))))
 
 unl-mtx-requires : tie.Need-unl-mtx-requires
 unfolding refusals
@@ -85,7 +85,7 @@ unl-mtx-requires c κs =
     let d = c .before .before .before in
     let h = d .before .before .before .before .before .before .before .before .pre in
     let v = made-valid (h .0) in
-    (h .0 .words, (made-allowed (one UnlMtx _ (d .before .call9 .given .1) (d .known-told9 .given .0 .1)) (h .0), (v .isPriorities, v .isArrivals)))
+    (h .0 .words, (made-allowed (one UnlMtx _ (d .before .call9 .given .1) (d .known-told9 .given .0 .1)) (h .0), (v .isPriorities, (v .isBitmap, v .isArrivals))))
 
 cre-mbf-requires : tie.Need-cre-mbf-requires
 unfolding refusals

@@ -24,7 +24,7 @@ take-requires : tie.Need-take-requires
 take-requires c κs =
     let d = c .before .before .before .before .before .before in
     let h = d .before .before .before .before .before .before .before .before .pre in
-    (h .0, (h .1 .1 .1 .0, (h .1 .1 .1 .1, sym (d .holder .ensures) ∙ c .before .before .before .before .before .if1 .left)))
+    (h .0, (h .1 .1 .1 .0, (h .1 .1 .1 .1 .0, (h .1 .1 .1 .1 .1, sym (d .holder .ensures) ∙ c .before .before .before .before .before .if1 .left))))
 
 returns-3 : tie.Need-returns-3
 returns-3 c =

@@ -15,7 +15,7 @@ returns-2 : tie.Need-returns-2
 returns-2 c =
     let d = c .before .before .before in
     let s = d .before .before .before .before .before .before in
-    awaits-quiet _ _ _ _ (d .before .word .ensures) (rw (toZ-ofZ (s .fits .timeout)) at (d .begin-wait .ensures)) (s .pre .0) (s .pre .1 .0) (s .pre .1 .1)
+    awaits-quiet _ _ _ _ (d .before .word .ensures) (rw (toZ-ofZ (s .fits .timeout)) at (d .begin-wait .ensures)) (s .pre .0) (s .pre .1 .0) (s .pre .1 .1 .0) (s .pre .1 .1 .1)
     (d .before .before .before .attribute .ensures) (c .if1 .left)
 
 pub wait-for-spec : {M : Type 1} → statement M

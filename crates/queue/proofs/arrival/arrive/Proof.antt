@@ -7,5 +7,5 @@ use Rattle.queue.proofs.arrival.arrive.Tie as tie
 pub arrive-spec : {M : Type 1} → statement M
 arrive-spec =
     tie.close
-    (tie.spec (λ c κs. search needs) (λ c κs. search needs) (λ c κs. search needs) (λ c. search needs)
+    (tie.spec (λ c κs. search needs) (λ c κs. search needs) (λ c κs. search needs) (λ c κs. search needs) (λ c. search needs)
     λ c. search arrives)

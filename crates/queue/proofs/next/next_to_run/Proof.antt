@@ -2,6 +2,7 @@
 use Prim.Native.Nat.{suc, _-_}
 use native.Mathlib.Omega.{arith}
 use mathlib.Core.Path.{_≡_, _∙_, refl, sym}
+use lib.Count.{trailing-le}
 use borrow.Author.Needs.{needs}
 use Rattle.model.specs.Sizes.{tasks, priorities}
 use Rattle.model.specs.declared.number.MaybeTask.the-variants.{Nothing}
@@ -10,19 +11,22 @@ use Rattle.queue.proofs.next.next_to_run.Statement.{statement}
 use Rattle.queue.proofs.next.next_to_run.Tie as tie
 
 abbrev Inv-loop : tie.InvT-loop
-Inv-loop state found₀ p i₀ found i = (found ≡ Nothing) × Looking state p i
+Inv-loop state found₀ first p i₀ found i = (found ≡ Nothing) × Looking state p i
 
 abbrev μ-loop : tie.MeasureT-loop
-μ-loop state found₀ p i₀ found i = tasks - i
+μ-loop state found₀ first p i₀ found i = tasks - i
 
 abbrev Inv-search : tie.InvT-search
-Inv-search state found₀ p₀ found p = (found ≡ Nothing) × Searching state p
+Inv-search state found₀ first p₀ found p = (found ≡ Nothing) × Searching state p
 
 abbrev μ-search : tie.MeasureT-search
-μ-search state found₀ p₀ found p = suc priorities - p
+μ-search state found₀ first p₀ found p = suc priorities - p
+
+add-first : tie.Need-add-first Inv-loop μ-loop Inv-search μ-search
+add-first c = omega (arith, trailing-le 32 (c .bits .result))
 
 search-holds : tie.Need-search-holds Inv-loop μ-loop Inv-search μ-search
-search-holds c = (refl, search-start _ (c .before .pre))
+search-holds c = let pre = c .before .before .pre in (refl, search-start _ (pre .0) (pre .1) _ (c .bits .ensures))
 
 loop-holds : tie.Need-loop-holds Inv-loop μ-loop Inv-search μ-search
 loop-holds c = (c .before .search .inv .0, look-start _ _ (c .search-test .taken) (c .before .search .inv .1))
@@ -53,5 +57,5 @@ returns-2 c =
 pub next-to-run-spec : {M : Type 1} → statement M
 next-to-run-spec =
     tie.close
-    (tie.spec Inv-loop μ-loop Inv-search μ-search search-holds loop-holds (λ c κs. search needs) (λ c κs. search needs) (λ c κs. search needs)
+    (tie.spec Inv-loop μ-loop Inv-search μ-search (λ c κs. search needs) add-first search-holds loop-holds (λ c κs. search needs) (λ c κs. search needs) (λ c κs. search needs)
     (λ c. search needs) loop-less loop-again (λ c. search needs) search-less search-again returns returns-2)

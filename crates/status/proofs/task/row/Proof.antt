@@ -19,6 +19,9 @@ start c = c .before .before .before .before .before .before .before
 number : (c : tie.After-known-told) → c .before .found .given .0 .0 .0 ≡ suc (start c .args .i)
 number c = row-number taskKind (start c .pre .1) (c .before .before .before .from-word .ensures) (c .before .found .given .1)
 
+task-state-requires : tie.Need-task-state-requires
+task-state-requires c κs = let asked = start c .pre .0 in (asked-words _ _ _ asked, asked-valid _ _ _ asked .isBitmap)
+
 shown-time-requires : tie.Need-shown-time-requires
 shown-time-requires c κs =
     let told = c .before .before .before .before .before .before in
@@ -49,4 +52,4 @@ pub row-spec : {M : Type 1} → statement M
 row-spec =
     tie.close
     (tie.spec (λ c. search needs) (λ c. search needs) (λ c κs. search needs) (λ c. search needs) (λ c. search needs) (λ c. search (row-never taskKind))
-    (λ c κs. search asked-words) (λ c κs. search asked-words) (λ c κs. search asked-words) (λ c κs. search asked-words) (λ c κs. search asked-words) (λ c κs. search asked-words) shown-time-requires returns-2)
+    task-state-requires (λ c κs. search asked-words) (λ c κs. search asked-words) (λ c κs. search asked-words) (λ c κs. search asked-words) (λ c κs. search asked-words) shown-time-requires returns-2)

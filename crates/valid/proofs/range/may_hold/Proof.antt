@@ -1,6 +1,7 @@
 -- `may_hold` meets its contract: the tests pick the case. Assumes nothing.
 use borrow.Author.Needs.{needs}
-use Rattle.valid.proofs.Objects.{places-long, hold-none, hold-nobody, hold-task}
+use Rattle.valid.proofs.Objects.{hold-none, hold-nobody, hold-task}
+use Rattle.state.proofs.WordLaws.{places-long}
 use Rattle.valid.proofs.range.may_hold.Statement.{statement}
 use Rattle.valid.proofs.range.may_hold.Tie as tie
 
