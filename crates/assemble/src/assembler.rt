@@ -8,7 +8,7 @@ use super::reason::{Reason, Step};
 use script::place::part;
 
 // How long the script is that stands in front of the area, or which line is wrong and why.
-#[derive(Drop)]
+#[derive(Clone, Copy)]
 pub enum Outcome {
     Script(usize),
     Wrong { line: usize, reason: Reason },

@@ -14,7 +14,7 @@ use text::names::{TEMPLATE_BYTES, put_template};
 pub(crate) const FIELDS: usize = 3;
 
 // A field, or what is wrong.
-#[derive(Drop)]
+#[derive(Clone, Copy)]
 pub enum Field {
     Value(i32),
     Wrong(Reason),

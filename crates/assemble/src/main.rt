@@ -1,4 +1,6 @@
 // Turns a text of calls, a line each, into the bytes of a script, or says which line is wrong and why.
+#![tactic(auto)]
+
 mod assembler;
 mod field;
 mod line;

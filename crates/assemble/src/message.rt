@@ -7,7 +7,7 @@ use super::reason::{Reason, Step};
 use super::word::{ends_word, skip_blanks};
 
 // What stands at a place of a message: a byte, with the next place, or its end, with the place behind it.
-#[derive(Drop)]
+#[derive(Clone, Copy)]
 pub enum Piece {
     Byte { value: u8, next: usize },
     End(usize),

@@ -8,7 +8,7 @@ use script::place::part;
 use text::names::{TEMPLATE_BYTES, put_template};
 
 // The kind that a word names, or none.
-#[derive(Drop)]
+#[derive(Clone, Copy)]
 pub enum Named {
     Kind(u8),
     Nothing,

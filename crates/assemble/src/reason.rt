@@ -8,7 +8,7 @@ use model::sizes::{MESSAGE_BYTES, SCRIPT_BYTES};
 use script::place::put;
 use text::number::put_number;
 
-#[derive(Drop)]
+#[derive(Clone, Copy)]
 pub enum Reason {
     UnknownCall,
     FieldMissing,
@@ -21,7 +21,7 @@ pub enum Reason {
 }
 
 // The next place, or what is wrong.
-#[derive(Drop)]
+#[derive(Clone, Copy)]
 pub enum Step {
     Next(usize),
     Wrong(Reason),

@@ -3,6 +3,8 @@
 //
 // A function over a slice of structs is proved by hand. So the four that take one are thin and alike: what is to be answered, whether an object
 // exists and what its row holds are functions of their own, and one proof serves the four.
+#![tactic(auto)]
+
 pub mod buffer;
 pub mod mutex;
 pub mod pool;

@@ -14,7 +14,7 @@ const BUFFER: u32 = CRE_MBF as u32;
 const POOL: u32 = CRE_MPF as u32;
 
 // A number; one with a sign; a task's state; what a task waits for, by its creating kind and its number; milliseconds left; a task; the length of a message.
-#[derive(Drop)]
+#[derive(Clone, Copy)]
 pub enum Cell {
     Number(u32),
     Signed(i32),

@@ -8,7 +8,7 @@ use super::cell::{Cell, put_content};
 use script::place::put;
 
 // At the right or at the left of a column that is so wide; or in the last column, where the line ends behind it.
-#[derive(Drop)]
+#[derive(Clone, Copy)]
 pub enum Column {
     Right(usize),
     Left(usize),

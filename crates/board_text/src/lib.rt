@@ -1,4 +1,6 @@
 // The text of the status board: a table each of tasks, mutexes, buffers and pools, and the whole of what the wall shows.
+#![tactic(auto)]
+
 pub mod buffer;
 pub mod cell;
 pub mod column;

@@ -1,4 +1,6 @@
 // The calls: any call on whatever is lent, and a call on a state that is known to be valid.
+#![tactic(auto)]
+
 pub(crate) mod dispatch;
 pub mod step;
 
@@ -16,7 +18,7 @@ use step::valid_step;
 use valid::is_valid;
 
 // What a call leaves beside the areas: its answer, and how many bytes of log it has written.
-#[derive(Drop)]
+#[derive(Clone, Copy)]
 pub struct Called {
     pub answer: Answer,
     pub written: usize,

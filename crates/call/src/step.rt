@@ -15,7 +15,7 @@ use script::log::{log_answer, log_runs};
 use transfer::drain::drain;
 
 // What such a call leaves: its answer, how many bytes of log it has written, and the task that runs next.
-#[derive(Drop)]
+#[derive(Clone, Copy)]
 pub struct Step {
     pub answer: Answer,
     pub written: usize,

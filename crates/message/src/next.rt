@@ -7,7 +7,7 @@ use super::store::store_oldest;
 use model::number::{BufferNumber, TaskNumber};
 
 // Where a message lies: in the store, the oldest of a buffer; in the outbox, a sender's, of so many bytes; or nowhere.
-#[derive(Drop)]
+#[derive(Clone, Copy)]
 pub enum Location {
     Stored(BufferNumber),
     Sent(TaskNumber, u32),

@@ -8,7 +8,7 @@ use model::number::{BufferNumber, TaskNumber};
 use model::sizes::{MESSAGE_BYTES, REGION_BYTES};
 
 // A part goes from its start up to its end, within the area.
-#[derive(Drop)]
+#[derive(Clone, Copy)]
 pub(crate) struct Part {
     pub(crate) start: usize,
     pub(crate) end: usize,

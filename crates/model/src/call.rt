@@ -1,6 +1,6 @@
 // The calls of document 01, a variant each, with the fields of its table. The 32 message bytes of snd_mbf stay beside the
 // call, where they lie.
-#[derive(Drop)]
+#[derive(Clone, Copy)]
 pub enum Call {
     CreTsk {
         priority: i32,
@@ -70,7 +70,7 @@ pub enum Call {
 }
 
 // What a call is answered with: a code, that the caller waits, or nothing more, since the caller has exited.
-#[derive(Drop)]
+#[derive(Clone, Copy)]
 pub enum Answer {
     Code(i32),
     Waits,
@@ -78,13 +78,13 @@ pub enum Answer {
 }
 
 // A place in a script.
-#[derive(Drop)]
+#[derive(Clone, Copy)]
 pub struct Cursor {
     pub at: usize,
 }
 
 // What reading a record finds: the call and the place after the record, or that the script stops there.
-#[derive(Drop)]
+#[derive(Clone, Copy)]
 pub enum Read {
     Record { call: Call, next: Cursor },
     Stop { offset: usize },
@@ -92,7 +92,7 @@ pub enum Read {
 
 // What comes of a script at a place: its record was answered, and the next one stands there; the script is over, at its end or where it
 // stops; or nothing was done, because the area for the log has another length than a log's.
-#[derive(Drop)]
+#[derive(Clone, Copy)]
 pub enum Progress {
     Answered { answer: Answer, next: Cursor },
     Over,

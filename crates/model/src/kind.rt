@@ -60,7 +60,7 @@ const BODIES: [u8; KINDS as usize] = [
     0,
 ];
 
-#[derive(Drop)]
+#[derive(Clone, Copy)]
 pub enum BodyLength {
     Bytes(usize),
     Unknown,

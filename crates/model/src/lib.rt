@@ -1,5 +1,7 @@
 // What every other crate speaks of: sizes, numbers of objects, attributes, calls, answers, error codes, the table of kinds and the tags of a log.
 // The definitions that contracts cite are in specs/.
+#![tactic(auto)]
+
 pub mod attribute;
 pub mod bytes;
 pub mod call;

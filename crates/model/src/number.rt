@@ -7,38 +7,38 @@ ghost use Rattle.model.specs.Number.{field_number, word_number, maybe_task, task
 
 use super::sizes::{BUFFERS, MUTEXES, POOLS, TASKS};
 
-#[derive(Drop)]
+#[derive(Clone, Copy)]
 pub struct TaskNumber(u32);
 
-#[derive(Drop)]
+#[derive(Clone, Copy)]
 pub struct MutexNumber(u32);
 
-#[derive(Drop)]
+#[derive(Clone, Copy)]
 pub struct BufferNumber(u32);
 
-#[derive(Drop)]
+#[derive(Clone, Copy)]
 pub struct PoolNumber(u32);
 
 // What a field of a call or a word of the state names: an object's number, or nothing.
-#[derive(Drop)]
+#[derive(Clone, Copy)]
 pub enum MaybeTask {
     Task(TaskNumber),
     Nothing,
 }
 
-#[derive(Drop)]
+#[derive(Clone, Copy)]
 pub enum MaybeMutex {
     Mutex(MutexNumber),
     Nothing,
 }
 
-#[derive(Drop)]
+#[derive(Clone, Copy)]
 pub enum MaybeBuffer {
     Buffer(BufferNumber),
     Nothing,
 }
 
-#[derive(Drop)]
+#[derive(Clone, Copy)]
 pub enum MaybePool {
     Pool(PoolNumber),
     Nothing,

@@ -1,4 +1,6 @@
 // The calls of fixed pools: of each, the first refusal in the order of document 01's table, and what it does once none applies.
+#![tactic(auto)]
+
 pub mod create;
 pub mod delete;
 pub mod get;

@@ -1,4 +1,6 @@
 // Current priorities: a task's own priority, the walks that raise those that it leads to, and all of them worked out afresh.
+#![tactic(auto)]
+
 mod own;
 mod walk;
 

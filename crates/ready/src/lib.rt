@@ -1,4 +1,6 @@
 // The bits of the priorities that have a ready task: that of one, and those of all, as worked out afresh.
+#![tactic(auto)]
+
 mod bit;
 
 ghost use Rattle.std.specs.Prelude.{◌≡◌, length};

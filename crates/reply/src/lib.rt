@@ -1,17 +1,19 @@
 // What a call comes to: whether it is refused, and, where it is carried out, its answer and where the log goes on.
+#![tactic(auto)]
+
 pub mod field;
 
 use model::call::Answer;
 
 // What the table of refusals says of a call.
-#[derive(Drop)]
+#[derive(Clone, Copy)]
 pub enum Verdict {
     Allowed,
     Refused(i32),
 }
 
 // The answer of a call that is carried out, and the place behind the waits that it has ended.
-#[derive(Drop)]
+#[derive(Clone, Copy)]
 pub struct Reply {
     pub answer: Answer,
     pub next: usize,

@@ -1,4 +1,6 @@
 // A script, record by record: the record at a place is read, called and logged. No whole log need be held.
+#![tactic(auto)]
+
 pub mod turn;
 
 ghost use Rattle.std.specs.Prelude.{◌≡◌};
@@ -12,7 +14,7 @@ use script::log::{log_stop, log_too_long};
 use script::reader::{message, read_record};
 
 // What comes of a script at a place, beside the areas: how it goes on, and how many bytes of log were written.
-#[derive(Drop)]
+#[derive(Clone, Copy)]
 pub struct Ran {
     pub progress: Progress,
     pub written: usize,

@@ -9,7 +9,7 @@ use model::sizes::SCRIPT_BYTES;
 pub const INPUT_BYTES: usize = SCRIPT_BYTES + 1;
 
 // At the next record; not at all, since the script is over; or not at all, since something could not be written.
-#[derive(Drop)]
+#[derive(Clone, Copy)]
 pub enum Turn {
     On(Cursor),
     Over,

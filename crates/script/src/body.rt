@@ -6,7 +6,7 @@ use model::kind::{BodyLength, SND_MBF, body_length};
 use model::sizes::MESSAGE_BYTES;
 
 // How many bytes of a body are fields, and how many are the message.
-#[derive(Drop)]
+#[derive(Clone, Copy)]
 pub enum Body {
     Parts { fields: usize, message: usize },
     Unknown,

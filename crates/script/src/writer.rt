@@ -12,7 +12,7 @@ use model::kind::{
 };
 
 // What became of a record: written, with the place after it, or refused with nothing written.
-#[derive(Drop)]
+#[derive(Clone, Copy)]
 pub enum Wrote {
     Next(usize),
     NoRoom,
@@ -44,7 +44,7 @@ pub fn write_record(area: &mut [u8], at: usize, call: Call, message: &[u8]) -> W
 }
 
 // A call's kind and fields, 0 for each field fewer than three.
-#[derive(Drop)]
+#[derive(Clone, Copy)]
 struct Head(u8, i32, i32, i32);
 
 fn call_head(call: Call) -> Head

@@ -1,4 +1,6 @@
 // Reads a script from standard input and writes its log to standard output, record by record: no more than one record's log is ever held.
+#![tactic(auto)]
+
 ghost use Rattle.act.specs.Held.{areas};
 ghost use Rattle.run.specs.Turns.{Turned, RunsAll};
 

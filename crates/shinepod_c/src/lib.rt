@@ -1,5 +1,7 @@
 // The library for C: a handful of functions over what the other crates promise. A slice is handed over as a pointer and a length.
 // include/shinepod.h declares them and says what a caller in C answers for.
+#![tactic(auto)]
+
 mod outcome;
 mod place;
 

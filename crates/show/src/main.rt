@@ -1,4 +1,6 @@
 // Reads a script from standard input and writes what happens in it as lines that people can read: each record's call, and then its log.
+#![tactic(auto)]
+
 ghost use Rattle.std.specs.Prelude.{◌≡◌, length};
 ghost use Rattle.text.specs.Turn.{text_bytes};
 ghost use Rattle.act.specs.Held.{areas};

@@ -1,5 +1,7 @@
 // The kernel's state: lent words of one fixed length, read as the kernel of the definitions. A getter and a setter for each field stand
 // in the modules; the state is made here.
+#![tactic(auto)]
+
 pub mod arrival;
 pub mod bitmap;
 pub mod buffer;
@@ -19,7 +21,7 @@ const PRIORITY: u32 = 8;
 const PRIORITY_BIT: u32 = 1 << (PRIORITY - 1);
 
 // Whether an area was filled, or left alone because it has not the length of a state.
-#[derive(Drop)]
+#[derive(Clone, Copy)]
 pub enum Filled {
     Done,
     WrongLength,

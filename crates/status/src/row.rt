@@ -3,7 +3,7 @@
 // A task's: its state is one of `TTS_..`; kind and object are what it waits for, 0 and 0 if it does not wait; left are the milliseconds left of its
 // wait, -1 for one without end.
 #[repr(C)]
-#[derive(Drop)]
+#[derive(Clone, Copy)]
 pub struct TaskRow {
     pub state: u32,
     pub base: u32,
@@ -15,7 +15,7 @@ pub struct TaskRow {
 
 // A mutex's: the task that holds it, and the first that waits for it. Here and below a task is its number, 0 for none.
 #[repr(C)]
-#[derive(Drop)]
+#[derive(Clone, Copy)]
 pub struct MutexRow {
     pub holder: u32,
     pub waiter: u32,
@@ -24,7 +24,7 @@ pub struct MutexRow {
 // A buffer's: the bytes that are free; of a message of maxmsz bytes, how many of them it would leave over, or how many it lacks (below zero); the length of
 // the next message; and who waits first to receive and to send.
 #[repr(C)]
-#[derive(Drop)]
+#[derive(Clone, Copy)]
 pub struct BufferRow {
     pub free: u32,
     pub room: i32,
@@ -35,7 +35,7 @@ pub struct BufferRow {
 
 // A pool's: how many blocks are free, and the first that waits.
 #[repr(C)]
-#[derive(Drop)]
+#[derive(Clone, Copy)]
 pub struct PoolRow {
     pub free: u32,
     pub waiter: u32,

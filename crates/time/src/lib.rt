@@ -1,4 +1,6 @@
 // The call of time: tick. Nothing refuses it, and no task makes it.
+#![tactic(auto)]
+
 ghost use Rattle.std.specs.Prelude.{ℕ, ◌≡◌, length};
 ghost use Rattle.model.specs.Sizes.{tasks};
 ghost use Rattle.model.specs.Valid.{From};

@@ -1,4 +1,6 @@
 // The check of a lent state: whether it and the two lent areas are valid, 01's "Sound" with what 02 adds to it.
+#![tactic(auto)]
+
 mod arrival;
 mod ceiling;
 mod current;

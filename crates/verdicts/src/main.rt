@@ -1,5 +1,7 @@
 // Reads lent states from standard input and writes for each a line that says whether it is valid. The independent
 // program in reference/ makes the states and tells the same.
+#![tactic(auto)]
+
 mod frame;
 mod words;
 

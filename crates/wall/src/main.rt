@@ -1,4 +1,6 @@
 // Reads a script from standard input, runs it, and writes for a wall display where it ends or stops and the four tables of the status board.
+#![tactic(auto)]
+
 ghost use Rattle.std.specs.Prelude.{◌≡◌, length};
 ghost use Rattle.text.specs.Line.{IsFront};
 ghost use Rattle.text.specs.Turn.{text_bytes};

@@ -1,0 +1,44 @@
+-- `end_waits` meets its contract: what is left is the order from the next place on. Assumes nothing.
+use Prim.Native.Nat.{◌-◌}
+use native.Mathlib.Omega.{arith}
+use mathlib.Core.Path.{◌∙◌, refl, sym}
+use lib.ListN.{length, drop, drop_of_length-le}
+use mir.Facts.{to_z-of_z}
+use mir.Val.{to_z}
+use borrow.Author.Rules.{rules}
+use Rattle.act.proofs.EndingAll.{ending}
+use Rattle.act.proofs.Loop.{dropped, in-log-more, in-log-none}
+use Rattle.act.proofs.waits.end_waits.Goals as goal
+
+-- GONE same_length : tie.Need-same-length invariant-loop decreases-loop
+-- same_length c = c.before.loop.invariant.0.words ∙ sym c.before.before.before.before.before.before.requires.0
+
+-- GONE same-length-2 : tie.Need-same-length-2 invariant-loop decreases-loop
+-- same-length-2 c = c.before.loop.invariant.0.outbox-size
+
+-- GONE same-length-3 : tie.Need-same-length-3 invariant-loop decreases-loop
+-- same-length-3 c = c.before.loop.invariant.0.log-size
+
+pub loop-i-init : goal.loop-i-init
+loop-i-init c = (ending _ _ c.requires.state_len, omega arith, refl)
+
+pub end_numbered-next-requires : goal.end_numbered-next-requires
+end_numbered-next-requires c =
+    let i = c.loop-i.invariant in record { state_len = i.0.words; from = c.requires.tasks.each
+          c.loop-i.i c.loop-i-test.true }
+
+pub loop-i-preserved : goal.loop-i-preserved
+loop-i-preserved c =
+    let i = c.loop-i.invariant in
+    let k = c.end_numbered-next.auto in (
+      in-log-more _ (dropped _ c.loop-i.i
+          c.loop-i-test.true) i.0 k.0 k.1.0 k.1.1.0
+          c.end_numbered-next.ensures,
+      search rules,
+      refl,
+    )
+
+pub returns : goal.returns
+returns c =
+    rw (to_z-of_z c.ranges.code) at (in-log-none _ (drop_of_length-le _ {i = c.loop-i.i}
+    (search rules)) c.loop-i.invariant.0)

@@ -1,0 +1,13 @@
+-- `put_spaces` meets its contract. The invariant: what is left is the spaces from i on. Assumes nothing.
+use Prim.Native.Nat.{◌-◌}
+use mathlib.Core.Path.{◌≡◌}
+use lib.ListN.{length}
+use Rattle.text.proofs.Loops.{Left}
+use Rattle.board_text.specs.Column.{spaces}
+use Rattle.board_text.proofs.column.put_spaces.Given as goal
+
+abbrev pub invariant-loop-i : goal.invariant-loop-i
+invariant-loop-i l = Left l.initial.text l.at (spaces l.n) l.next l.i (spaces (l.n - i)) × (length l.next ≡ length l.initial.text)
+
+abbrev pub decreases-loop-i : goal.decreases-loop-i
+decreases-loop-i l = l.n - i

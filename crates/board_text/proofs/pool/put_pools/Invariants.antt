@@ -1,0 +1,12 @@
+-- `put_pools` meets its contract. The invariant: what is left is the table from row i on. Assumes nothing.
+use Prim.Native.Nat.{◌-◌}
+use Rattle.model.specs.Sizes.{pools}
+use Rattle.board_text.specs.Tables.{pool_table}
+use Rattle.board_text.proofs.Rows.{RowsLeft}
+use Rattle.board_text.proofs.pool.put_pools.Given as goal
+
+abbrev pub invariant-loop-i : goal.invariant-loop-i
+invariant-loop-i l = RowsLeft pool_table l.rows l.initial.text l.at any i l.any l.i
+
+abbrev pub decreases-loop-i : goal.decreases-loop-i
+decreases-loop-i l = pools - i

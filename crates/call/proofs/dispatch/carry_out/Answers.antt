@@ -1,0 +1,24 @@
+-- `carry_out` meets its contract: where nobody runs, an allowed call is a tick. Assumes nothing.
+use Rattle.model.specs.Effect.{perform}
+use Rattle.call.proofs.Dispatching.{made-carries, nobody-ticks, caller_runs, carries-for}
+use Rattle.call.proofs.dispatch.carry_out.Goals as goal
+
+pub tick-requires : goal.tick-requires
+tick-requires c = c.requires.allowed.words
+
+pub returns-in_default : goal.returns-in_default
+unfolding perform
+returns-in_default c =
+    let h = (c.requires.allowed, c.requires.caller_value) in
+    made-carries (nobody-ticks _ _ _ h.1 c.in_default.is h.0.unrefused) _
+    ((c.tick.ensures _).carries _)
+
+pub perform_made-requires : goal.perform_made-requires
+perform_made-requires c =
+    let h = (c.requires.allowed, c.requires.caller_value) in
+    (h.0, caller_runs _ h.1 c.in-Task.is)
+
+pub returns : goal.returns
+returns c =
+    carries-for (caller_runs _ c.requires.caller_value c.in-Task.is).0
+    c.perform_made.ensures

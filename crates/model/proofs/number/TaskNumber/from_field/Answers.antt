@@ -1,0 +1,12 @@
+-- `TaskNumber::from_field` meets its contract, which joins those of its two callees. Assumes nothing.
+use mathlib.Core.Path.{◌∙◌, ap}
+use lib.IntN.{ℤ}
+use mir.Facts.{to_z-of_z}
+use Rattle.model.specs.Sizes.{tasks}
+use Rattle.model.specs.Number.{field_number, maybe_task}
+use Rattle.model.proofs.number.TaskNumber.from_field.Goals as goal
+
+pub returns : goal.returns
+returns c =
+    c.maybe.ensures
+    ∙ ap maybe_task (c.field_number.ensures ∙ ap (λ (z : ℤ). field_number z tasks) (to_z-of_z c.ranges.n))

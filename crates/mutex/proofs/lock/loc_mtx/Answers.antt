@@ -1,0 +1,26 @@
+-- `loc_mtx` meets its contract: the holder says whether the caller waits. Assumes nothing.
+use mathlib.Core.Path.{◌∙◌, sym}
+use mir.Facts.{to_z-of_z}
+use Rattle.mutex.proofs.Locking.{lock-named, locks-waiting, locks-free}
+use Rattle.mutex.proofs.lock.loc_mtx.Goals as goal
+
+pub returns-in_default : goal.returns-in_default
+returns-in_default c =
+    absurd (lock-named _ _ (to_z-of_z c.ranges.mutex) c.from_field-found.ensures _
+    c.requires.timeout_value c.in_default.is)
+
+pub returns-then-holder-ne0 : goal.returns-then-holder-ne0
+returns-then-holder-ne0 c =
+    locks-waiting _ _ (to_z-of_z c.ranges.mutex) c.from_field-found.ensures c.in-Mutex.is
+    c.requires.state_len c.requires.caller_value c.holder.ensures c.if-holder-ne0.true c.log_answer-next.ensures (to_z-of_z c.ranges.timeout)
+    c.wait_for.ensures
+
+pub take-requires : goal.take-requires
+take-requires c =
+    let h = (c.requires.state_len, (c.requires.caller_value, (c.requires.timeout_value, (c.requires.priorities, (c.requires.bitmap, c.requires.each))))) in
+    record { state_len = h.0; priorities = h.1.1.1.0; bitmap = h.1.1.1.1.0; each = h.1.1.1.1.1; m_value = sym c.holder.ensures ∙ c.if-holder-ne0.false }
+
+pub returns : goal.returns
+returns c =
+    locks-free _ _ (to_z-of_z c.ranges.mutex) c.from_field-found.ensures c.in-Mutex.is
+    c.requires.state_len c.requires.caller_value c.holder.ensures c.if-holder-ne0.false c.log_answer-next-2.ensures c.take.ensures

@@ -1,0 +1,6 @@
+-- `set_row` meets its contract: entry after entry. Assumes nothing.
+
+use Rattle.pool.proofs.create.set_row.Goals as goal
+
+pub returns : goal.returns
+returns c = record { length = c.set_size.ensures.length; kernel = cc }

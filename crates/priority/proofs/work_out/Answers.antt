@@ -1,0 +1,32 @@
+-- `work_out` meets its contract. The loop's invariant: the tasks passed have passed their current priorities on. Assumes nothing.
+use mathlib.Core.Path.{◌≡◌, ◌∙◌, ap}
+use Prim.Native.Nat.{◌-◌}
+use native.Mathlib.Omega.{arith}
+use Rattle.model.specs.Sizes.{tasks}
+use Rattle.model.specs.Kernel.{Kernel}
+use Rattle.model.specs.Words.{kernel}
+use Rattle.priority.specs.Afresh.{passed_on}
+use Rattle.priority.proofs.WordLaws.{onto, turn}
+use Rattle.priority.proofs.WalkLaws.{place-length}
+use Rattle.priority.proofs.PassLaws.{passed_so_far, passed_start, passed-step, passed-done}
+use Rattle.priority.proofs.work_out.Goals as goal
+
+-- from the loop's head: back to where every task had its own priority
+abbrev own : tie.At-loop invariant-loop decreases-loop → tie.After-start-from-own invariant-loop decreases-loop
+own head = head.before.before.before
+
+pub loop-n-init : goal.loop-n-init
+loop-n-init c = (record { length = c.start_from_own.ensures.length; kernel = passed_start _ }, omega arith)
+
+pub pass_on-requires : goal.pass_on-requires
+pass_on-requires c = record { state_len = c.loop-n.invariant.0.length; le_n = omega arith; n_le_tasks = omega arith }
+
+pub loop-n-preserved : goal.loop-n-preserved
+loop-n-preserved c = (turn passed_so_far passed_on _ _ c.loop-n.invariant.0 c.pass_on.ensures (passed-step _ _), omega arith)
+
+pub returns : goal.returns
+returns c =
+    let start = (own c).before.before.before in
+    let e : c.loop-n.n ≡ tasks = omega arith in
+    onto c.loop-n.invariant.0
+    (ap (passed_so_far _) e ∙ ap (λ (k : Kernel). passed_so_far k tasks) (own c).start-from-own.ensures.kernel ∙ passed-done _ (place-length _ start.pre))

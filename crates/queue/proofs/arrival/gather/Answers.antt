@@ -1,0 +1,25 @@
+-- `gather` meets its contract. The loop's invariant: the places seen are gathered, and j counts the others among them. Assumes nothing.
+use Prim.Native.Nat.{◌-◌}
+use native.Mathlib.Omega.{arith}
+use mathlib.Core.Path.{◌∙◌, sym}
+use lib.ListN.{length}
+use Rattle.queue.proofs.ArrivingLaws.{gather-start, gather-more, gather-done}
+use Rattle.queue.proofs.arrival.gather.Goals as goal
+
+-- GONE same_length : tie.Need-same-length invariant-loop decreases-loop
+-- same_length c = let g = c.before.loop.invariant in g.state.length ∙ sym g.start
+
+pub loop-i-init : goal.loop-i-init
+loop-i-init c = gather-start _ _ c.requires
+
+pub keep-j-requires : goal.keep-j-requires
+keep-j-requires c = let g = c.loop-i.invariant in (g.state.length, (let f = g.few in let w = g.within in omega arith))
+
+pub loop-i-smaller : goal.loop-i-smaller
+loop-i-smaller c = omega arith
+
+pub loop-i-preserved : goal.loop-i-preserved
+loop-i-preserved c = search gather-more
+
+pub returns : goal.returns
+returns c = gather-done _ _ _ _ _ c.loop-i-test.false c.loop-i.invariant

@@ -1,0 +1,9 @@
+-- `bytes` meets its contract: the product of two words is a machine number. Assumes nothing.
+use Rattle.search.proofs.Sums.{product-fits}
+use Rattle.search.proofs.room.bytes.Goals as goal
+
+pub overflow_mul-result : goal.overflow_mul-result
+overflow_mul-result c = search product-fits
+
+pub returns : goal.returns
+returns c = cc

@@ -1,0 +1,12 @@
+-- `sta_tsk` meets its contract: the field names a task. Assumes nothing.
+use mir.Facts.{to_z-of_z}
+use Rattle.task.proofs.Creating.{dormant-named, starts}
+use Rattle.task.proofs.run.sta_tsk.Goals as goal
+
+pub returns-in_default : goal.returns-in_default
+returns-in_default c = absurd (search (dormant-named, to_z-of_z))
+
+pub returns : goal.returns
+returns c =
+    starts _ _ (to_z-of_z c.ranges.task) c.requires.state_len c.from_field-found.ensures c.in-Task.is c.arrive.ensures
+    c.log_answer.ensures

@@ -1,0 +1,10 @@
+-- `tick` meets its contract. Assumes nothing.
+use Rattle.time.proofs.Ticking.{ticks-all}
+use Rattle.time.proofs.tick.Goals as goal
+
+pub returns : goal.returns
+returns c =
+    λ caller. ticks-all caller
+    c.requires
+    c.log_answer-waits.ensures
+    c.tick_all.ensures

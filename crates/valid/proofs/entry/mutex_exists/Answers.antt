@@ -1,0 +1,10 @@
+-- `mutex_exists` meets its contract: a word that names nothing reads as 0. Assumes nothing.
+use Rattle.model.proofs.NumberLaws.{mutex_kind}
+use Rattle.valid.proofs.Objects.{entry-there, entry-none}
+use Rattle.valid.proofs.entry.mutex_exists.Goals as goal
+
+pub returns-in_default : goal.returns-in_default
+returns-in_default c = search (entry-none mutex_kind)
+
+pub returns : goal.returns
+returns c = search (entry-there mutex_kind)

@@ -1,0 +1,20 @@
+-- `is_valid` meets its contract: the lengths, then entry 0 of every list, then the clauses. Assumes nothing.
+use Rattle.valid.proofs.Check.{wrong-lengths, right-words, not-zero, none-lists, by-clauses}
+use mathlib.Core.Bool.{not}
+use mathlib.Core.Path.{ap}
+use Rattle.valid.proofs.is_valid.Goals as goal
+
+pub returns-then-not-right_lengths : goal.returns-then-not-right_lengths
+returns-then-not-right_lengths c = search wrong-lengths
+
+pub none_zero-requires : goal.none_zero-requires
+none_zero-requires c = search right-words
+
+pub returns-then-not-none_zero : goal.returns-then-not-none_zero
+returns-then-not-none_zero c = search not-zero
+
+pub clauses_hold-requires : goal.clauses_hold-requires
+clauses_hold-requires c = (search right-words, none-lists _ _ c.none_zero.ensures (ap not c.if-not-none_zero.false))
+
+pub returns : goal.returns
+returns c = search by-clauses

@@ -1,0 +1,31 @@
+-- `buffers_valid` meets its contract. The loop's invariant: the buffers still to be asked decide. Assumes nothing.
+use Prim.Native.Nat.{◌-◌}
+use Rattle.model.proofs.Loops.{asks}
+use Rattle.valid.proofs.object.buffers_valid.Goals as goal
+
+pub loop-n-init : goal.loop-n-init
+loop-n-init c = search asks
+
+pub from_word-found-requires : goal.from_word-found-requires
+from_word-found-requires c = search asks
+
+pub returns-in_default : goal.returns-in_default
+returns-in_default c = search asks
+
+pub buffer_valid-requires : goal.buffer_valid-requires
+buffer_valid-requires c = search asks
+
+pub returns-then-not-buffer_valid : goal.returns-then-not-buffer_valid
+returns-then-not-buffer_valid c = search asks
+
+pub overflow_step-n : goal.overflow_step-n
+overflow_step-n c = search asks
+
+pub loop-n-smaller : goal.loop-n-smaller
+loop-n-smaller c = search asks
+
+pub loop-n-preserved : goal.loop-n-preserved
+loop-n-preserved c = search asks
+
+pub returns : goal.returns
+returns c = search asks
