@@ -11,8 +11,8 @@ mod reason;
 mod word;
 
 use assembler::{Outcome, assemble};
-use libc::{STDERR_FILENO, STDIN_FILENO, STDOUT_FILENO};
 use model::sizes::SCRIPT_BYTES;
+use model::stream::{STDERR, STDIN, STDOUT};
 use reason::{REPORT_BYTES, Reason, put_long_text, put_report};
 use script::place::part;
 
@@ -25,20 +25,20 @@ const INPUT_BYTES: usize = TEXT_BYTES + 1;
 fn complain(line: usize, reason: Reason) -> bool {
     let mut area = [0u8; REPORT_BYTES];
     let n = put_report(&mut area, line, reason);
-    io::write_all(STDERR_FILENO, part(&area, 0, n))
+    io::write_all(STDERR, part(&area, 0, n))
 }
 
 // Says that the text is too long. False where that can't be written.
 fn complain_of_length() -> bool {
     let mut area = [0u8; REPORT_BYTES];
     let n = put_long_text(&mut area, TEXT_BYTES);
-    io::write_all(STDERR_FILENO, part(&area, 0, n))
+    io::write_all(STDERR, part(&area, 0, n))
 }
 
 fn main() {
     let mut text = [0u8; INPUT_BYTES];
     let mut script = [0u8; SCRIPT_BYTES];
-    let n = io::read_full(STDIN_FILENO, &mut text);
+    let n = io::read_full(STDIN, &mut text);
     if TEXT_BYTES < n {
         complain_of_length();
         return;
@@ -46,11 +46,8 @@ fn main() {
     let outcome = assemble(part(&text, 0, n), &mut script);
     match outcome {
         Outcome::Script(length) => {
-            if !io::write_all(STDOUT_FILENO, part(&script, 0, length)) {
-                io::write_all(
-                    STDERR_FILENO,
-                    b"assemble: the script could not be written\n",
-                );
+            if !io::write_all(STDOUT, part(&script, 0, length)) {
+                io::write_all(STDERR, b"assemble: the script could not be written\n");
             }
         }
         Outcome::Wrong { line, reason } => {

@@ -26,10 +26,10 @@ fn hex_value(c: u8) -> u8
     if c <= b'9' {
         return c - b'0';
     }
-    if c < b'_a' {
+    if c < b'A' {
         return NO_DIGIT;
     }
-    if c <= b'_f' {
+    if c <= b'F' {
         return c - 55;
     }
     if c < b'a' {

@@ -1,3 +1,2 @@
 // Theorems alone.
 #![tactic(auto)]
-

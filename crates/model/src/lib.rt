@@ -10,3 +10,4 @@ pub mod item;
 pub mod kind;
 pub mod number;
 pub mod sizes;
+pub mod stream;

@@ -4,9 +4,9 @@
 ghost use Rattle.act.specs.Held.{areas};
 ghost use Rattle.run.specs.Turns.{Turned, RunsAll};
 
-use libc::{STDERR_FILENO, STDIN_FILENO, STDOUT_FILENO};
 use model::call::Cursor;
 use model::sizes::{LOG_BYTES, OUTBOX_BYTES, STORE_BYTES};
+use model::stream::{STDERR, STDIN, STDOUT};
 use run::turn::{INPUT_BYTES, Turn, turn_of};
 use run::{Ran, run_record};
 use state::layout::WORDS;
@@ -23,7 +23,7 @@ fn take_turn(
     ensures { Turned (areas state.old store.old outbox.old log.old) script.now at.at (areas state.new store.new outbox.new log.new) result }
 {
     let Ran { progress, written } = run_record(state, store, outbox, log, script, at);
-    turn_of(progress, io::write_all(STDOUT_FILENO, &log[..written]))
+    turn_of(progress, io::write_all(STDOUT, &log[..written]))
 }
 
 // From the first record on: a script has no more records than bytes. Answers whether all was written.
@@ -54,9 +54,9 @@ fn main() {
     let mut log = [0u8; LOG_BYTES];
     let mut input = [0u8; INPUT_BYTES];
     state::fresh(&mut state);
-    let n = io::read_full(STDIN_FILENO, &mut input);
+    let n = io::read_full(STDIN, &mut input);
     let written = run_all(&mut state, &mut store, &mut outbox, &mut log, &input[..n]);
     if !written {
-        io::write_all(STDERR_FILENO, b"shinepod: the log could not be written\n");
+        io::write_all(STDERR, b"shinepod: the log could not be written\n");
     }
 }

@@ -7,9 +7,9 @@ ghost use Rattle.act.specs.Held.{areas};
 ghost use Rattle.run.specs.Turns.{RunsAll};
 ghost use Rattle.show.specs.Shown.{ShowsTurn};
 
-use libc::{STDERR_FILENO, STDIN_FILENO, STDOUT_FILENO};
 use model::call::Cursor;
 use model::sizes::{LOG_BYTES, OUTBOX_BYTES, STORE_BYTES};
+use model::stream::{STDERR, STDIN, STDOUT};
 use run::turn::{INPUT_BYTES, Turn, turn_of};
 use run::{Ran, run_record};
 use state::layout::WORDS;
@@ -30,7 +30,7 @@ fn take_turn(
 {
     let Ran { progress, written } = run_record(state, store, outbox, log, script, at);
     let n = turn_text(text, script, at.at, progress, &log[..written]);
-    turn_of(progress, io::write_all(STDOUT_FILENO, &text[..n]))
+    turn_of(progress, io::write_all(STDOUT, &text[..n]))
 }
 
 // From the first record on: a script has no more records than bytes, and the end is a place, too. Answers whether all was written.
@@ -64,7 +64,7 @@ fn main() {
     let mut text = [0u8; TEXT_BYTES];
     let mut input = [0u8; INPUT_BYTES];
     state::fresh(&mut state);
-    let n = io::read_full(STDIN_FILENO, &mut input);
+    let n = io::read_full(STDIN, &mut input);
     let written = run_all(
         &mut state,
         &mut store,
@@ -74,6 +74,6 @@ fn main() {
         &input[..n],
     );
     if !written {
-        io::write_all(STDERR_FILENO, b"show: the lines could not be written\n");
+        io::write_all(STDERR, b"show: the lines could not be written\n");
     }
 }

@@ -2,8 +2,8 @@
 ghost use Rattle.std.specs.Prelude.{◌*◌, ◌≤◌, length};
 
 use super::words::{verdict, word};
-use libc::{STDIN_FILENO, STDOUT_FILENO};
 use model::sizes::{OUTBOX_BYTES, STORE_BYTES};
+use model::stream::{STDIN, STDOUT};
 use state::layout::WORDS;
 
 const HEAD: usize = 12;
@@ -17,15 +17,15 @@ const MOST_OUTBOX: usize = 2 * OUTBOX_BYTES;
 
 // A frame that is too long or cut ends the run.
 fn refuse() -> bool {
-    io::write_all(STDOUT_FILENO, b"?\n");
+    io::write_all(STDOUT, b"?\n");
     false
 }
 
 fn write_verdict(valid: bool) -> bool {
     if valid {
-        io::write_all(STDOUT_FILENO, b"1\n")
+        io::write_all(STDOUT, b"1\n")
     } else {
-        io::write_all(STDOUT_FILENO, b"0\n")
+        io::write_all(STDOUT, b"0\n")
     }
 }
 
@@ -33,7 +33,7 @@ fn write_verdict(valid: bool) -> bool {
 fn read_front(area: &mut [u8], n: usize) -> bool
     requires { n ≤ length area.old }
 {
-    io::read_full(STDIN_FILENO, &mut area[0..n]) == n
+    io::read_full(STDIN, &mut area[0..n]) == n
 }
 
 // What follows the three numbers, read to the front of lent areas.
@@ -76,7 +76,7 @@ fn judge_sized(words: usize, store: usize, outbox: usize) -> bool
 // One frame; answers whether there may be more.
 pub(crate) fn judge() -> bool {
     let mut head = [0u8; HEAD];
-    let got = io::read_full(STDIN_FILENO, &mut head);
+    let got = io::read_full(STDIN, &mut head);
     if got == 0 {
         return false;
     }

@@ -9,9 +9,9 @@ ghost use Rattle.wall.specs.Walled.{RunsToEnd, board_text, ShowsBoard};
 
 use board::table::{buffer_table, mutex_table, pool_table, task_table};
 use board_text::wall::put_wall;
-use libc::{STDERR_FILENO, STDIN_FILENO, STDOUT_FILENO};
 use model::call::{Cursor, Progress};
 use model::sizes::{LOG_BYTES, OUTBOX_BYTES, STORE_BYTES};
+use model::stream::{STDERR, STDIN, STDOUT};
 use run::run_record;
 use run::turn::INPUT_BYTES;
 use state::layout::WORDS;
@@ -83,7 +83,7 @@ fn main() {
     let mut text = [0u8; TEXT_BYTES];
     let mut input = [0u8; INPUT_BYTES];
     state::fresh(&mut state);
-    let n = io::read_full(STDIN_FILENO, &mut input);
+    let n = io::read_full(STDIN, &mut input);
     let shown = run_and_show(
         &mut state,
         &mut store,
@@ -92,7 +92,7 @@ fn main() {
         &mut text,
         &input[..n],
     );
-    if !io::write_all(STDOUT_FILENO, &text[..shown]) {
-        io::write_all(STDERR_FILENO, b"wall: the board could not be written\n");
+    if !io::write_all(STDOUT, &text[..shown]) {
+        io::write_all(STDERR, b"wall: the board could not be written\n");
     }
 }

@@ -37,8 +37,13 @@ ter_tsk-requires c =
 pub chg_pri-requires : goal.chg_pri-requires
 unfolding refusals
 chg_pri-requires c =
-    let h = (c.requires.allowed, (c.requires.caller_value, c.requires.le_caller)) in record { state_len = h.0.words; caller_value = h.1.0; le_caller = h.1.1; priority_value = made-allowed (two ChgPri _ _ c.in-ChgPri.is c.in-ChgPri.known_told-in-ChgPri-1-own.given.0.1
-              c.in-ChgPri.known_told-in-ChgPri-1-own.given.1.0.1) h.0 }
+    let h = (c.requires.allowed, (c.requires.caller_value, c.requires.le_caller)) in record {
+      state_len = h.0.words;
+      caller_value = h.1.0;
+      le_caller = h.1.1;
+      priority_value = made-allowed (two ChgPri _ _ c.in-ChgPri.is c.in-ChgPri.known_told-in-ChgPri-1-own.given.0.1
+          c.in-ChgPri.known_told-in-ChgPri-1-own.given.1.0.1) h.0;
+    }
 
 pub cre_mtx-requires : goal.cre_mtx-requires
 unfolding refusals
@@ -70,8 +75,11 @@ unl_mtx-requires c =
 pub cre_mbf-requires : goal.cre_mbf-requires
 unfolding refusals
 cre_mbf-requires c =
-    let h = (c.requires.allowed, (c.requires.caller_value, c.requires.le_caller)) in record { state_len = h.0.words; maxmsz_value = made-allowed (three CreMbf _ _ _ c.in-CreMbf.is c.in-CreMbf.known_told-in-CreMbf-1-own.given.0.1 c.in-CreMbf.known_told-in-CreMbf-1-own.given.1.0.1
-          c.in-CreMbf.known_told-in-CreMbf-1-own.given.1.1.0.1) h.0 }
+    let h = (c.requires.allowed, (c.requires.caller_value, c.requires.le_caller)) in record {
+      state_len = h.0.words;
+      maxmsz_value = made-allowed (three CreMbf _ _ _ c.in-CreMbf.is c.in-CreMbf.known_told-in-CreMbf-1-own.given.0.1 c.in-CreMbf.known_told-in-CreMbf-1-own.given.1.0.1
+          c.in-CreMbf.known_told-in-CreMbf-1-own.given.1.1.0.1) h.0;
+    }
 
 pub del_mbf-requires : goal.del_mbf-requires
 unfolding refusals
@@ -82,8 +90,12 @@ del_mbf-requires c =
 pub snd_mbf-requires : goal.snd_mbf-requires
 unfolding refusals
 snd_mbf-requires c =
-    let h = (c.requires.allowed, (c.requires.caller_value, c.requires.le_caller)) in record { state_len = h.0.words; caller_value = h.1.0; message_value = made-allowed (three SndMbf _ _ _ c.in-SndMbf.is c.in-SndMbf.known_told-in-SndMbf-1-own.given.0.1 c.in-SndMbf.known_told-in-SndMbf-1-own.given.1.0.1
-            c.in-SndMbf.known_told-in-SndMbf-1-own.given.1.1.0.1) h.0 }
+    let h = (c.requires.allowed, (c.requires.caller_value, c.requires.le_caller)) in record {
+      state_len = h.0.words;
+      caller_value = h.1.0;
+      message_value = made-allowed (three SndMbf _ _ _ c.in-SndMbf.is c.in-SndMbf.known_told-in-SndMbf-1-own.given.0.1 c.in-SndMbf.known_told-in-SndMbf-1-own.given.1.0.1
+          c.in-SndMbf.known_told-in-SndMbf-1-own.given.1.1.0.1) h.0;
+    }
 
 pub rcv_mbf-requires : goal.rcv_mbf-requires
 unfolding refusals
@@ -95,8 +107,11 @@ rcv_mbf-requires c =
 pub cre_mpf-requires : goal.cre_mpf-requires
 unfolding refusals
 cre_mpf-requires c =
-    let h = (c.requires.allowed, (c.requires.caller_value, c.requires.le_caller)) in record { state_len = h.0.words; size_value = made-allowed (three CreMpf _ _ _ c.in-CreMpf.is c.in-CreMpf.known_told-in-CreMpf-1-own.given.0.1 c.in-CreMpf.known_told-in-CreMpf-1-own.given.1.0.1
-          c.in-CreMpf.known_told-in-CreMpf-1-own.given.1.1.0.1) h.0 }
+    let h = (c.requires.allowed, (c.requires.caller_value, c.requires.le_caller)) in record {
+      state_len = h.0.words;
+      size_value = made-allowed (three CreMpf _ _ _ c.in-CreMpf.is c.in-CreMpf.known_told-in-CreMpf-1-own.given.0.1 c.in-CreMpf.known_told-in-CreMpf-1-own.given.1.0.1
+          c.in-CreMpf.known_told-in-CreMpf-1-own.given.1.1.0.1) h.0;
+    }
 
 pub del_mpf-requires : goal.del_mpf-requires
 unfolding refusals
@@ -107,8 +122,12 @@ del_mpf-requires c =
 pub get_mpf-requires : goal.get_mpf-requires
 unfolding refusals
 get_mpf-requires c =
-    let h = (c.requires.allowed, (c.requires.caller_value, c.requires.le_caller)) in record { state_len = h.0.words; caller_value = h.1.0; timeout_value = made-allowed (two GetMpf _ _ c.in-GetMpf.is c.in-GetMpf.known_told-in-GetMpf-1-own.given.0.1 c.in-GetMpf.known_told-in-GetMpf-1-own.given.1.0.1)
-            h.0 }
+    let h = (c.requires.allowed, (c.requires.caller_value, c.requires.le_caller)) in record {
+      state_len = h.0.words;
+      caller_value = h.1.0;
+      timeout_value = made-allowed (two GetMpf _ _ c.in-GetMpf.is c.in-GetMpf.known_told-in-GetMpf-1-own.given.0.1 c.in-GetMpf.known_told-in-GetMpf-1-own.given.1.0.1)
+          h.0;
+    }
 
 pub rel_mpf-requires : goal.rel_mpf-requires
 unfolding refusals
