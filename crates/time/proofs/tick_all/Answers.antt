@@ -28,7 +28,7 @@ loop-n-preserved c =
     let i = c.loop-n.invariant in
     let k = c.tick_numbered-next.auto in (
       in-log-more _ (counted tasks c.loop-n.n (search rules)) i.0
-          k.0 k.1.0 k.1.1.0 c.tick_numbered-next.ensures,
+          k.state k.outbox k.log c.tick_numbered-next.ensures,
       search rules,
     )
 
