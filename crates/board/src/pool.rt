@@ -12,8 +12,7 @@ use status::row::PoolRow;
 pub const ROWS: usize = POOLS as usize;
 
 // The manual's tk_ref_mpf, of all pools at once.
-#[unsafe(no_mangle)]
-pub extern "C" fn shinepod_ref_mpf(
+pub fn shinepod_ref_mpf(
     state: &[u32],
     store: &[u8],
     outbox: &[u8],
