@@ -1,12 +1,9 @@
 -- `release_all` meets its contract: what is left are the mutexes from the next one on. Assumes nothing.
-use Prim.Native.Nat.{◌-◌}
 use native.Mathlib.Omega.{arith}
-use mathlib.Core.Path.{◌∙◌, sym}
 use borrow.Author.Rules.{rules}
 use Rattle.model.specs.Sizes.{mutexes}
 use Rattle.act.proofs.Releasing.{releasing}
 use Rattle.act.proofs.Loop.{counted, counted-all, in-log-more, in-log-none}
-use Rattle.act.specs.Ends.{release_held}
 use Rattle.act.proofs.mutex.release_all.Goals as goal
 
 pub loop-n-init : goal.loop-n-init

@@ -1,10 +1,8 @@
 -- `end_waits` meets its contract: what is left is the order from the next place on. Assumes nothing.
-use Prim.Native.Nat.{◌-◌}
 use native.Mathlib.Omega.{arith}
-use mathlib.Core.Path.{◌∙◌, refl, sym}
-use lib.ListN.{length, drop, drop_of_length-le}
+use mathlib.Core.Path.{refl}
+use lib.ListN.{drop_of_length-le}
 use mir.Facts.{to_z-of_z}
-use mir.Val.{to_z}
 use borrow.Author.Rules.{rules}
 use Rattle.act.proofs.EndingAll.{ending}
 use Rattle.act.proofs.Loop.{dropped, in-log-more, in-log-none}

@@ -1,9 +1,7 @@
 -- `drain` meets its contract. The loop's invariant: the buffers that are left do the rest. Assumes nothing.
-use Prim.Native.Nat.{◌-◌}
 use mathlib.Core.Path.{refl}
 use borrow.Author.Rules.{rules}
 use Rattle.model.specs.Sizes.{buffers}
-use Rattle.model.specs.Act.{drain}
 use Rattle.act.proofs.Loop.{counted, counted-all, left-more, left-none}
 use Rattle.transfer.specs.Serving.{served}
 use Rattle.transfer.proofs.Serving.{left-drain}

@@ -5,8 +5,7 @@ use borrow.Author.Rules.{rules}
 use Rattle.model.specs.Sizes.{tasks}
 use Rattle.search.proofs.Senders.{first-none}
 use Rattle.act.proofs.Loop.{left-all}
-use Rattle.transfer.specs.Serving.{served}
-use Rattle.transfer.proofs.Serving.{turns, first-sender, serve-next, serve-none, serve-end}
+use Rattle.transfer.proofs.Serving.{first-sender, serve-next, serve-none, serve-end}
 use Rattle.transfer.proofs.drain.drain_buffer.Goals as goal
 
 pub loop-init : goal.loop-init
