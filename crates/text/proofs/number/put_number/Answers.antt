@@ -5,5 +5,5 @@ use Rattle.text.proofs.number.put_number.Goals as goal
 
 pub returns : goal.returns
 returns c =
-    let d = c.decimal-k.ensures.1 in
-    rw (sym (d.1 ∙ is-decimal _ _ c.ranges.n.fits d.0)) c.put.ensures
+    let d = c.decimal-k.ensures in
+    rw (sym (d.digits ∙ is-decimal _ _ c.ranges.n.fits d.len)) c.put.ensures

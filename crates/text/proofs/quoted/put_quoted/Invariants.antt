@@ -6,7 +6,7 @@ use Rattle.text.proofs.Loops.{Left, bytes_left}
 use Rattle.text.proofs.quoted.put_quoted.Given as goal
 
 abbrev pub invariant-loop-i : goal.invariant-loop-i
-invariant-loop-i l = Left l.initial.line l.initial.next (bytes_left l.message l.n 0) l.next l.i (bytes_left l.message l.n i) × (length l.next ≡ length l.initial.line)
+invariant-loop-i l = Left l.initial.line l.initial.next (bytes_left l.message l.n 0) l.line l.next (bytes_left l.message l.n l.i) × (length l.line ≡ length l.initial.line)
 
 abbrev pub decreases-loop-i : goal.decreases-loop-i
-decreases-loop-i l = l.n - i
+decreases-loop-i l = l.n - l.i
