@@ -1,5 +1,6 @@
 -- `shinepod_call` meets its contract: nothing is done where no call has the kind, else what the call promises is told. Assumes nothing.
 use mathlib.Core.Path.{◌∙◌, sym, ap}
+use mir.Syntax.{w32}
 use mir.Facts.{to_z-of_z}
 use borrow.Author.Rules.{rules}
 use Rattle.model.specs.Record.{kinds}
@@ -16,4 +17,4 @@ pub returns : goal.returns
 returns c =
     tells-call _ c.args.kind _ _ (known-row _ _ (sym c.body_length.ensures ∙ c.in-Bytes.is))
     (c.call_of-call.ensures ∙ ap (call_in kinds c.args.kind) (same c.ranges.first c.ranges.second c.ranges.third))
-    c.call-called.ensures c.outcome_of.ensures (to_z-of_z (search rules) ∙ c.code_of.ensures)
+    c.call-called.ensures c.outcome_of.ensures (to_z-of_z {w = w32} (search rules) ∙ c.code_of.ensures)

@@ -1,12 +1,13 @@
 -- `progress_code` meets its contract, case by case. Assumes nothing.
 use mathlib.Core.Path.{◌∙◌, sym, ap}
+use mir.Syntax.{w32}
 use mir.Facts.{to_z-of_z}
 use borrow.Author.Rules.{rules}
 use Rattle.shinepod_c.specs.Outcome.{progress_code}
 use Rattle.shinepod_c.proofs.outcome.progress_code.Goals as goal
 
 pub returns-in-Answered : goal.returns-in-Answered
-returns-in-Answered c = to_z-of_z (search rules) ∙ c.code_of.ensures ∙ ap progress_code (sym c.in-Answered.is)
+returns-in-Answered c = to_z-of_z {w = w32} (search rules) ∙ c.code_of.ensures ∙ ap progress_code (sym c.in-Answered.is)
 
 pub returns-in-Over : goal.returns-in-Over
 returns-in-Over c = ap progress_code (sym c.in-Over.is)
