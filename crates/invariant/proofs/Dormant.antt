@@ -1,6 +1,6 @@
 -- A task becomes dormant: it leaves its wait, its base is the initial one again, and it gives up its mutexes.
 use mathlib.Core.Logic.{⊎_elim}
-use Rattle.model.proofs.Terms.{ℕ, ◌≤◌, arith, ◌≡◌, refl, inr, set-get_or, tasks, priorities, ◌!◌, queue, dormant, ready, Kernel, with_arrivals, with_place, with_base, departed, World, with_kernel, recompute, settled, leave_kernel, leave_outbox, leave, become_dormant}
+use Rattle.model.proofs.Terms.{ℕ, ◌≤◌, arith, ◌≡◌, refl, inr, set-get_or, tasks, ◌!◌, queue, dormant, ready, Kernel, with_arrivals, with_place, with_base, departed, World, with_kernel, recompute, settled, leave_kernel, leave_outbox, leave, become_dormant}
 use Rattle.queue.proofs.Listing.{departed-listing}
 use Rattle.invariant.specs.Rows.{open_tasks, open_world}
 use Rattle.invariant.specs.Invariant.{Invariant, Steady}

@@ -1,6 +1,6 @@
 -- A mutex is taken, given up, or passes to the first that waits; a task becomes dormant and gives up all that it holds.
 use mathlib.Core.Logic.{⊎_elim}
-use Rattle.model.proofs.Terms.{ℕ, suc, ◌≤◌, ◌<◌, ℕ_discrete, arith, ◌≡◌, ◌∙◌, refl, sym, ap, subst, ◌≢◌, inr, cond, List, set, set-get_or, get_or-set_other, eqb, eq-eqb, ne_eqb, tasks, mutexes, priorities, ◌!◌, E_OK, queue, ready_queue, dormant, ready, locking, Kernel, with_mutexes, with_holder, arrived, facts, ready_at, World, Nothing, with_kernel, queue_front, recompute, arrive, recompute_if, settled, leave_kernel, leave_outbox, leave, end_wait, release, release_all, Each, Priorities, Bitmap}
+use Rattle.model.proofs.Terms.{ℕ, suc, ◌≤◌, ◌<◌, ℕ_discrete, arith, ◌≡◌, ◌∙◌, refl, sym, ap, subst, ◌≢◌, inr, cond, List, set, set-get_or, get_or-set_other, eqb, eq-eqb, ne_eqb, tasks, mutexes, ◌!◌, E_OK, queue, ready_queue, dormant, ready, locking, Kernel, with_mutexes, with_holder, arrived, facts, ready_at, World, Nothing, with_kernel, queue_front, recompute, arrive, recompute_if, settled, leave_kernel, leave_outbox, leave, end_wait, release, release_all, Each, Priorities, Bitmap}
 use Rattle.model.proofs.ByCase.{recompute-only, release-free, release-next}
 use Rattle.queue.proofs.Members.{Stood, front-stood, nobody-there}
 use Rattle.ready.proofs.KeptLaws.{bits-recomputed}

@@ -1,5 +1,5 @@
 -- What each call that is not refused does to the waits of a valid state: waits end, the caller's may begin, and one delivery may be made.
-use Rattle.model.proofs.Terms.{ℕ, ◌+◌, ◌*◌, ◌≤◌, arith, ◌≡◌, ◌∙◌, refl, sym, subst, not, none, List, [], length, set, length-set, get_or-set_other, ℤ, eqb, le-leb, eqb-false, not-true, tasks, ◌!◌, number, E_OK, E_DLT, queue, absent, dormant, ready, locking, sending, receiving, getting, Queue, Kernel, Lent, Nothing, Message, Block, begun, running, with_kernel, with_outbox, queue_front, handed, settled, arrive, recompute_if, wait, store_message, first_refusal, refusals, nobody_runs, lock_waits, storable, free_block, Done, succeeds, waits, take_oldest, drain, perform, carried_out, Outcome, cre_tsk, del_tsk, sta_tsk, ext_tsk, ter_tsk, chg_pri, cre_mtx, del_mtx, loc_mtx, unl_mtx, cre_mbf, del_mbf, snd_mbf, rcv_mbf, cre_mpf, del_mpf, get_mpf, rel_mpf, tick_task, tick, fields_of, Wait, Valid}
+use Rattle.model.proofs.Terms.{ℕ, ◌+◌, ◌*◌, ◌≤◌, arith, ◌≡◌, ◌∙◌, refl, sym, subst, not, none, List, [], length, set, length-set, get_or-set_other, ℤ, eqb, le-leb, eqb-false, not-true, tasks, ◌!◌, number, E_OK, E_DLT, queue, absent, dormant, ready, locking, sending, receiving, getting, Queue, Kernel, Lent, Nothing, Message, Block, begun, running, with_kernel, with_outbox, queue_front, settled, arrive, recompute_if, wait, store_message, first_refusal, refusals, nobody_runs, lock_waits, storable, free_block, Done, succeeds, waits, take_oldest, drain, perform, carried_out, Outcome, cre_tsk, del_tsk, sta_tsk, ext_tsk, ter_tsk, chg_pri, cre_mtx, del_mtx, loc_mtx, unl_mtx, cre_mbf, del_mbf, snd_mbf, rcv_mbf, cre_mpf, del_mpf, get_mpf, rel_mpf, tick_task, tick, fields_of, Wait, Valid}
 use Rattle.model.proofs.ListLaws.{by-test}
 use Rattle.model.proofs.ByCase.{rejoin-only}
 use mathlib.Core.Logic.{⊎_elim}

@@ -1,5 +1,5 @@
 -- The statements of `Statements`, proved: each name is its statement's.
-use Rattle.model.proofs.Terms.{Areas, ℕ_discrete, dec_le, ◌≤◌, arith, ◌≡◌, refl, sym, ap, subst, true, none, some, [], ◌∷◌, length, eqb, eq-eqb, eqb-true, log_bytes, script_bytes, Kernel, Lent, begun, World, first_refusal, refusals, perform, effect, Valid, valid, Bitmap, FirstSender, word_count, kernel, words, fields, sizes, fresh_lent, refused, carried_out, valid_step, read_record, record_message, lent, is_valid, with_log, untouched, returned, script_over, went, lent_record}
+use Rattle.model.proofs.Terms.{Areas, ℕ_discrete, dec_le, ◌≤◌, arith, ◌≡◌, refl, sym, ap, subst, true, none, some, [], ◌∷◌, length, eqb, eq-eqb, eqb-true, log_bytes, script_bytes, Kernel, Lent, begun, World, first_refusal, refusals, perform, effect, Valid, valid, Bitmap, FirstSender, word_count, words, fields, sizes, fresh_lent, refused, carried_out, valid_step, read_record, record_message, lent, is_valid, with_log, untouched, returned, script_over, went, lent_record}
 use mathlib.Core.Bool.{and-eq-true_iff}
 use Rattle.model.specs.declared.call.Call.{Call}
 use Rattle.model.specs.declared.call.Call.TheVariants.{CreTsk, DelTsk, StaTsk, ExtTsk, TerTsk, ChgPri, CreMtx, DelMtx, LocMtx, UnlMtx, CreMbf, DelMbf, SndMbf, RcvMbf, CreMpf, DelMpf, GetMpf, RelMpf, Tick}
