@@ -6,7 +6,6 @@ use reference::board as expected;
 use reference::lent_state::State;
 use reference::limits::*;
 use reference::random::Random;
-use reference::upper_tally::HALF;
 use shinepod::{board, raw};
 
 use crate::difference::{same, same_list, Compared};
@@ -21,8 +20,6 @@ pub struct Counts {
     pub boards: u64,
     pub written: u64,
     pub rows: u64,
-    /// Of these, rows of tasks of the upper half of the numbers.
-    pub upper_rows: u64,
     pub not_valid: u64,
     pub too_few: u64,
 }
@@ -94,9 +91,7 @@ impl Case<'_> {
         let code = reference(words, store, outbox, &mut expected[table.clone()]);
         let lent = self.lent;
         let came = library(lent.words(), lent.store(), lent.outbox(), &mut given[table]);
-        let is_written = |&row: &usize| old[row] != expected[row];
-        let written: Vec<usize> = (0..old.len()).filter(is_written).collect();
-        self.count(code, &written);
+        self.count(code, old.iter().zip(&expected).filter(|(old, new)| old != new).count());
         let given: Vec<R::Expected> = given.iter().map(|row| row.expected()).collect();
         let name = |i: usize| format!("row {}", i as i64 + 1 - GUARD as i64);
         same("the answer", came, code)
@@ -104,31 +99,23 @@ impl Case<'_> {
             .map_err(|what| format!("the {kind} board with {rows} rows: {what}"))
     }
 
-    fn count(&mut self, code: i32, rows: &[usize]) {
+    fn count(&mut self, code: i32, rows: usize) {
         self.counts.boards += 1;
         self.counts.written += u64::from(code == E_OK);
-        self.counts.rows += rows.len() as u64;
-        // Other kinds have fewer numbers than half of the tasks.
-        self.counts.upper_rows += rows.iter().filter(|&&row| row >= GUARD + HALF).count() as u64;
+        self.counts.rows += rows as u64;
         self.counts.not_valid += u64::from(code == E_SYS);
         self.counts.too_few += u64::from(code == E_PAR);
     }
 }
 
-/// The longest table: a bit more than any kind has numbers.
-const MOST_ROWS: usize = TASKS + 8;
-
-const _: () = assert!(HALF >= MUTEXES && HALF >= BUFFERS && HALF >= POOLS);
-
-/// As many rows as there are numbers, one less, one more, none, one, fewer, or any number up to the
-/// most.
+/// As many rows as there are numbers, one less, one more, none, one, fewer, or any number up to 40.
 fn row_count(numbers: usize, random: &mut Random) -> usize {
     match random.below(10) {
         0 => random.below(2),
         1 => numbers - 1,
         2 => numbers + 1,
         3 => random.below(numbers),
-        4 | 5 => random.below(MOST_ROWS + 1),
+        4 | 5 => random.below(41),
         _ => numbers,
     }
 }

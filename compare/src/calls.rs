@@ -4,8 +4,7 @@ use reference::lent_state::State;
 use reference::limits::*;
 use reference::random::Random;
 use reference::record::{self, KINDS};
-use reference::upper_tally::HALF;
-use reference::words::{at, LOCKING, WORDS};
+use reference::words::{at, WORDS};
 use reference::{next_message, run_record, states, Answer, Kernel};
 use shinepod::numbers::{ANSWERED, IN_OUTBOX, IN_STORE, NOWHERE, OVER, UNKNOWN_KIND};
 use shinepod::raw::Shown;
@@ -30,9 +29,6 @@ const EXTREME: [usize; 2] = [0, 25];
 pub struct Counts {
     pub states: u64,
     pub valid: u64,
-    /// Valid ones in which a task of the upper half of the numbers runs, and in which one waits.
-    pub upper_runs: u64,
-    pub upper_waits: u64,
     pub calls: u64,
     pub well: u64,
     pub waits: u64,
@@ -59,7 +55,6 @@ fn on_state(state: &State, log: &[u8], random: &mut Random, counts: &mut Counts)
     case.counts.states += 1;
     case.counts.valid += u64::from(valid);
     if valid {
-        case.count_upper();
         for row in 0..KINDS.len() {
             for extreme in EXTREME {
                 case.one(row, extreme)?;
@@ -149,28 +144,18 @@ fn of_lengths(
     case.fresh()
 }
 
-const LENGTHS: usize = 6;
+const LENGTHS: usize = 5;
 
-/// The length as it is, none, one less, one more, twice that, or half of it, as for half of the tasks.
-const fn other_length(length: usize, choice: usize) -> usize {
-    match choice {
+/// The length as it is, none, one less, one more, or twice that.
+fn resize<T: Copy + From<u8>>(list: &mut Vec<T>, choice: usize, random: &mut Random) {
+    let length = list.len();
+    let new = match choice {
         0 => length,
         1 => 0,
         2 => length.saturating_sub(1),
         3 => length + 1,
-        4 => 2 * length,
-        _ => length / 2,
-    }
-}
-
-/// Among the outbox's are those that request Eight of document 02 is about: that of 16 tasks, and those beside the right one.
-const _: () = {
-    assert!(other_length(OUTBOX, 0) == 1_024 && other_length(OUTBOX, 5) == 512);
-    assert!(other_length(OUTBOX, 2) == 1_023 && other_length(OUTBOX, 3) == 1_025);
-};
-
-fn resize<T: Copy + From<u8>>(list: &mut Vec<T>, choice: usize, random: &mut Random) {
-    let new = other_length(list.len(), choice);
+        _ => 2 * length,
+    };
     let fill = if random.percent(50) { 0 } else { random.word() as u8 };
     list.resize(new, T::from(fill));
 }
@@ -185,16 +170,6 @@ struct Case<'a> {
 }
 
 impl Case<'_> {
-    fn count_upper(&mut self) {
-        let place = |t: usize| self.state.words[at::PLACE + t];
-        let waits = (HALF + 1..=TASKS).any(|t| place(t) >= LOCKING);
-        self.counts.upper_waits += u64::from(waits);
-        let State { words, store, outbox } = self.state;
-        let kernel = Kernel::from_words(words, store, outbox);
-        let running = kernel.and_then(|kernel| kernel.running());
-        self.counts.upper_runs += u64::from(running.is_some_and(|t| usize::from(t.get()) > HALF));
-    }
-
     /// The check, the next message of every buffer and of none, and the status board. Gives whether the state is valid.
     fn check(&mut self) -> Result<bool, String> {
         let valid = self.state.is_valid();

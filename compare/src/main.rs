@@ -14,7 +14,6 @@ use std::time::{Duration, Instant};
 
 use calls::Counts;
 use reference::tally::Tally;
-use reference::upper_tally::HALF;
 
 /// A line of progress comes so often.
 const PROGRESS: Duration = Duration::from_secs(30);
@@ -68,16 +67,13 @@ fn line(done: &Done, start: Instant) -> String {
     let counts = &done.counts;
     let boards = &counts.boards;
     format!(
-        "{} s: {} scripts, {} records; {} lent states, {} valid, in {} a task above {HALF} runs, in {} one waits; {} calls on them, \
-         {} went well, {} wait; {} times other lengths, {} times a wrong bit; {} messages shown; {} boards, {} written with {} rows, \
-         {} of tasks above {HALF}, {} refused with -5, {} with -17",
+        "{} s: {} scripts, {} records; {} lent states, {} valid; {} calls on them, {} went well, {} wait; \
+         {} times other lengths, {} times a wrong bit; {} messages shown; {} boards, {} written with {} rows, {} refused with -5, {} with -17",
         start.elapsed().as_secs(),
         done.scripts,
         done.records,
         counts.states,
         counts.valid,
-        counts.upper_runs,
-        counts.upper_waits,
         counts.calls,
         counts.well,
         counts.waits,
@@ -87,7 +83,6 @@ fn line(done: &Done, start: Instant) -> String {
         boards.boards,
         boards.written,
         boards.rows,
-        boards.upper_rows,
         boards.not_valid,
         boards.too_few
     )

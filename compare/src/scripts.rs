@@ -71,27 +71,17 @@ fn shortened(script: &[u8], log: &[u8]) -> Vec<u8> {
         at += length;
     }
     records.push(&script[at..]);
-    if !differs(&records) {
-        return script.to_vec();
-    }
-    // Large parts first, so that a long script is soon a short one.
-    let mut size = records.len().div_ceil(2);
-    loop {
-        let before = records.len();
-        let mut end = before;
-        while end > 0 {
-            let start = end.saturating_sub(size);
-            let fewer = [&records[..start], &records[end..]].concat();
-            if differs(&fewer) {
-                records = fewer;
+    let mut before = records.len() + 1;
+    while records.len() < before && differs(&records) {
+        before = records.len();
+        for i in (0..records.len()).rev() {
+            let record = records.remove(i);
+            if !differs(&records) {
+                records.insert(i, record);
             }
-            end = start;
         }
-        if size == 1 && records.len() == before {
-            return records.concat();
-        }
-        size = size.div_ceil(2);
     }
+    records.concat()
 }
 
 /// A script from the fresh state on, in both ways, and the boards that are looked at on the way.

@@ -171,19 +171,17 @@ fn arrived_before_an_equal(before: &Kernel, after: &Kernel, task: TaskNo) -> boo
     })
 }
 
-/// The holder of the inheritance mutex that the task waits for.
-pub(crate) fn awaited_holder(kernel: &Kernel, task: TaskNo) -> Option<TaskNo> {
-    match kernel.task(task).place {
-        Place::Locking(m) => kernel.mutex(m).filter(|m| m.attribute == MUTEX_INHERIT)?.holder,
-        _ => None,
-    }
-}
-
 /// Whether the task is a member of a circle of waits for inheritance mutexes.
 pub(crate) fn is_in_circle(kernel: &Kernel, task: TaskNo) -> bool {
+    let step = |t: TaskNo| match kernel.task(t).place {
+        Place::Locking(m) => {
+            kernel.mutex(m).filter(|m| m.attribute == MUTEX_INHERIT).and_then(|m| m.holder)
+        }
+        _ => None,
+    };
     let mut at = task;
     for _ in 0..TASKS {
-        match awaited_holder(kernel, at) {
+        match step(at) {
             Some(next) if next == task => return true,
             Some(next) => at = next,
             None => return false,

@@ -23,8 +23,6 @@ struct Profile {
     plans: usize,
     /// The same for plans about changes of a base.
     base_plans: usize,
-    /// The same for plans with as many tasks as there can be.
-    crowds: usize,
     /// How often, in a hundred records, a field gets an unusual number.
     unusual: usize,
     /// How many tasks, mutexes, buffers and pools are made first.
@@ -37,35 +35,31 @@ const MANY_TASKS: usize = TASKS * 2 / 3 + 1;
 //       tasks: cre del sta ext ter chg | mtx: cre del loc unl | mbf: cre del snd rcv
 //       | mpf: cre del get rel | tick
 #[rustfmt::skip]
-const PROFILES: [Profile; 9] = [
+const PROFILES: [Profile; 8] = [
     // A bit of everything.
     Profile { weights: [5, 2, 14, 3, 4, 10,  4, 2, 22, 14,  3, 2, 24, 20,  3, 1, 14, 10,  14],
-              plans: 4, base_plans: 2, crowds: 0, unusual: 2, setup: [TASKS / 2 + 1, 5, 2, 2] },
+              plans: 4, base_plans: 2, unusual: 2, setup: [TASKS / 2 + 1, 5, 2, 2] },
     // Inheritance: chains, circles, and what breaks them.
     Profile { weights: [3, 1, 12, 2, 5, 10,  3, 2, 40, 14,  0, 0, 1, 1,  0, 0, 1, 1,  10],
-              plans: 12, base_plans: 4, crowds: 0, unusual: 1, setup: [MANY_TASKS, 7, 0, 0] },
+              plans: 12, base_plans: 4, unusual: 1, setup: [MANY_TASKS, 7, 0, 0] },
     // Message buffers, with mutexes that move the senders.
     Profile { weights: [3, 1, 10, 2, 4, 10,  2, 1, 16, 8,  3, 2, 44, 24,  0, 0, 1, 1,  10],
-              plans: 10, base_plans: 2, crowds: 0, unusual: 1, setup: [MANY_TASKS, 4, 3, 0] },
+              plans: 10, base_plans: 2, unusual: 1, setup: [MANY_TASKS, 4, 3, 0] },
     // Pools.
     Profile { weights: [3, 1, 10, 3, 4, 8,  1, 1, 8, 5,  0, 0, 1, 1,  6, 3, 40, 24,  10],
-              plans: 1, base_plans: 2, crowds: 0, unusual: 1, setup: [MANY_TASKS, 2, 0, 4] },
+              plans: 1, base_plans: 2, unusual: 1, setup: [MANY_TASKS, 2, 0, 4] },
     // Tasks that come and go, under waits and with mutexes.
     Profile { weights: [14, 8, 26, 12, 16, 16,  3, 2, 20, 6,  2, 1, 8, 8,  2, 1, 8, 4,  10],
-              plans: 3, base_plans: 1, crowds: 0, unusual: 2, setup: [TASKS / 2, 4, 2, 2] },
+              plans: 3, base_plans: 1, unusual: 2, setup: [TASKS / 2, 4, 2, 2] },
     // Every number in use.
     Profile { weights: [20, 2, 10, 2, 2, 4,  16, 3, 8, 4,  10, 2, 6, 6,  12, 3, 6, 4,  6],
-              plans: 2, base_plans: 1, crowds: 1, unusual: 5,
-              setup: [TASKS - 1, MUTEXES, BUFFERS, POOLS] },
+              plans: 2, base_plans: 1, unusual: 5, setup: [TASKS - 1, MUTEXES, BUFFERS, POOLS] },
     // Timeouts.
     Profile { weights: [2, 1, 12, 2, 2, 6,  2, 1, 24, 8,  2, 1, 16, 14,  2, 1, 12, 4,  50],
-              plans: 5, base_plans: 1, crowds: 1, unusual: 1, setup: [MANY_TASKS, 5, 2, 2] },
-    // As many tasks as there can be, most of them waiting.
-    Profile { weights: [4, 1, 14, 2, 4, 8,  2, 1, 26, 6,  2, 1, 16, 14,  2, 1, 16, 4,  12],
-              plans: 3, base_plans: 1, crowds: 8, unusual: 1, setup: [TASKS - 1, MUTEXES, 3, 3] },
+              plans: 5, base_plans: 1, unusual: 1, setup: [MANY_TASKS, 5, 2, 2] },
     // Unusual numbers everywhere.
     Profile { weights: [6, 4, 14, 2, 5, 12,  6, 3, 16, 8,  6, 3, 18, 14,  6, 3, 12, 10,  6],
-              plans: 2, base_plans: 1, crowds: 0, unusual: 45, setup: [TASKS / 2, 5, 3, 3] },
+              plans: 2, base_plans: 1, unusual: 45, setup: [TASKS / 2, 5, 3, 3] },
 ];
 
 /// Numbers at the ends of ranges, pool attributes, and what no field allows.
@@ -87,29 +81,16 @@ struct Generator<'a> {
     script: Vec<u8>,
     /// Records tried so far for the first step of the plan.
     tries: usize,
-    tally: Option<&'a mut Tally>,
+    tally: &'a mut Tally,
 }
 
-/// Script number `index` of a seed, of at most `records` records; what happens in it is counted.
+/// Script number `index` of a seed, of at most `records` records.
 pub fn generate(seed: u64, index: u64, records: usize, tally: &mut Tally) -> Vec<u8> {
-    make(seed, index, records, Some(tally))
-}
-
-/// The same script where nobody asks for the counts, which take longer than the script.
-pub fn generate_uncounted(seed: u64, index: u64, records: usize) -> Vec<u8> {
-    make(seed, index, records, None)
-}
-
-fn make(seed: u64, index: u64, records: usize, tally: Option<&mut Tally>) -> Vec<u8> {
     // Far apart for neighbouring seeds and scripts.
     let mut random = Random::new(seed ^ index.wrapping_mul(0xD134_2543_DE82_EF95));
     random.word();
     if random.percent(2) {
-        let (script, end) = garbage(&mut random);
-        if let Some(tally) = tally {
-            tally.script(end);
-        }
-        return script;
+        return garbage(&mut random, tally);
     }
     let profile = &PROFILES[random.below(PROFILES.len())];
     let mut generator = Generator {
@@ -122,16 +103,12 @@ fn make(seed: u64, index: u64, records: usize, tally: Option<&mut Tally>) -> Vec
         tally,
     };
     generator.fill(records);
-    let end = generator.end();
-    if let Some(tally) = generator.tally {
-        tally.script(end);
-    }
+    generator.end();
     generator.script
 }
 
-/// Bytes of any kind, sometimes with a kind byte in front, sometimes too long or none; and what they
-/// are.
-fn garbage(random: &mut Random) -> (Vec<u8>, &'static str) {
+/// Bytes of any kind, sometimes with a kind byte in front, sometimes too long or none.
+fn garbage(random: &mut Random, tally: &mut Tally) -> Vec<u8> {
     let length = match random.below(20) {
         0 => 0,
         1 => SCRIPT,
@@ -146,12 +123,14 @@ fn garbage(random: &mut Random) -> (Vec<u8>, &'static str) {
     if let (false, Some(first)) = (ticks, script.first_mut()) {
         *first = KINDS[random.below(KINDS.len())].0;
     }
-    let end = match length {
-        0 => "empty",
-        1..=SCRIPT => "garbage",
-        _ => "too long",
-    };
-    (script, end)
+    tally.script(if script.is_empty() {
+        "empty"
+    } else if length > SCRIPT {
+        "too long"
+    } else {
+        "garbage"
+    });
+    script
 }
 
 impl Generator<'_> {
@@ -204,8 +183,8 @@ impl Generator<'_> {
         number - self.maker.random.below(number / 2 + 1)
     }
 
-    /// Ends the script: mostly as it is, sometimes with a cut or unknown record. Gives which.
-    fn end(&mut self) -> &'static str {
+    /// Ends the script: mostly as it is, sometimes with a cut or unknown record.
+    fn end(&mut self) {
         match self.maker.random.below(100) {
             0..=7 => {
                 let mut record = Vec::new();
@@ -214,7 +193,8 @@ impl Generator<'_> {
                 if record.len() > 1 {
                     record.truncate(1 + self.maker.random.below(record.len() - 1));
                     self.script.extend_from_slice(&record);
-                    return "cut";
+                    self.tally.script("cut");
+                    return;
                 }
             }
             8..=13 => {
@@ -228,11 +208,12 @@ impl Generator<'_> {
                 for _ in 0..self.maker.random.below(50) {
                     self.script.push(self.maker.random.word() as u8);
                 }
-                return "unknown kind";
+                self.tally.script("unknown kind");
+                return;
             }
             _ => {}
         }
-        "whole"
+        self.tally.script("whole");
     }
 
     /// Runs the call and appends its record.
@@ -243,11 +224,9 @@ impl Generator<'_> {
             self.make_unusual(&mut bytes);
         }
         let Some((call, _)) = record::read(&bytes) else { return };
-        let before = self.tally.is_some().then(|| self.maker.kernel.clone());
+        let before = self.maker.kernel.clone();
         self.maker.kernel.run(&call, &mut self.outcome);
-        if let (Some(tally), Some(before)) = (&mut self.tally, before) {
-            tally.record(&before, &call, &self.outcome, &self.maker.kernel);
-        }
+        self.tally.record(&before, &call, &self.outcome, &self.maker.kernel);
         self.script.extend_from_slice(&bytes);
     }
 
@@ -319,8 +298,6 @@ impl Generator<'_> {
             self.plan.extend(self.maker.plan());
         } else if self.maker.random.percent(self.profile.base_plans) {
             self.plan.extend(self.maker.base_plan());
-        } else if self.maker.random.percent(self.profile.crowds) {
-            self.plan.extend(self.maker.crowd_plan());
         }
         // At once: the plan is made for the kernel as it is now.
         if let Some(step) = self.plan.pop_front() {

@@ -174,10 +174,10 @@ impl Ledger {
         }
     }
 
-    /// Whether those in the queue wait for an inheritance mutex that y holds.
-    fn is_linked(&self, queue: Queue, y: usize) -> bool {
-        match queue {
-            Queue::Mutex(m) => {
+    /// Whether x waits for an inheritance mutex that y holds.
+    fn waits_for(&self, x: usize, y: usize) -> bool {
+        match self.queue_of(x) {
+            Some(Queue::Mutex(m)) => {
                 self.mutexes[m].is_some_and(|m| m.attribute == 2 && m.holder == Some(y))
             }
             _ => false,
@@ -192,8 +192,8 @@ impl Ledger {
         while seen < linked.len() {
             let y = linked[seen];
             seen += 1;
-            for &(x, queue) in &self.queued {
-                if self.is_linked(queue, y) && !linked.contains(&x) {
+            for x in 1..=TASKS {
+                if self.waits_for(x, y) && !linked.contains(&x) {
                     linked.push(x);
                 }
             }
@@ -213,13 +213,26 @@ impl Ledger {
             self.queued.iter().filter(|&&(_, q)| q == queue).map(|&(t, _)| t).collect();
         if self.by_priority(queue) {
             // A stable sort: equals stay as they arrived.
-            tasks.sort_by_cached_key(|&t| self.priority(t));
+            tasks.sort_by_key(|&t| self.priority(t));
         }
         tasks
     }
 
     pub fn running(&self) -> Option<usize> {
         self.in_order(Queue::Ready).first().copied()
+    }
+
+    /// Whether the task is a member of a circle of waits for inheritance mutexes.
+    pub fn in_circle(&self, task: usize) -> bool {
+        let mut at = task;
+        for _ in 0..TASKS {
+            match (1..=TASKS).find(|&y| self.waits_for(at, y)) {
+                Some(y) if y == task => return true,
+                Some(y) => at = y,
+                None => return false,
+            }
+        }
+        false
     }
 
     /// Says where the kernel differs from the ledger.

@@ -154,14 +154,12 @@ pub(crate) fn resize<T: Copy + Default + PartialEq + From<u8>>(
 ) {
     let length = list.len();
     let zeros = list.iter().rev().take_while(|&&entry| entry == T::default()).count();
-    let new = match random.below(7) {
+    let new = match random.below(6) {
         0 => length + 1,
         1 => length - 1,
         2 => length - zeros,
         3 => 2 * length,
         4 => length + 1 + random.below(length),
-        // As for half as many tasks.
-        5 => length / 2,
         _ => length - random.below(zeros + 1),
     };
     let fill = if random.percent(70) { T::default() } else { T::from(random.word() as u8) };

@@ -1,7 +1,7 @@
 //! Every size and code of the kernel, each written once.
 
 /// Tasks are numbered 1 to this.
-pub const TASKS: usize = 32;
+pub const TASKS: usize = 16;
 /// Mutexes are numbered 1 to this.
 pub const MUTEXES: usize = 8;
 /// Message buffers are numbered 1 to this.

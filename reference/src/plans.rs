@@ -86,12 +86,6 @@ impl CallMaker {
             return None;
         }
         let length = 2 + self.random.below(most - 1);
-        Some(self.linked(&mutexes[..length], &tasks, closed))
-    }
-
-    /// The same over all of these mutexes, with the first of these tasks.
-    pub fn linked(&mut self, mutexes: &[MutexNo], tasks: &[TaskNo], closed: bool) -> Vec<Step> {
-        let length = mutexes.len();
         let mut steps = Vec::new();
         let lock = |m: MutexNo, timeout| Call::LocMtx { mutex: i32::from(m.get()), timeout };
         for i in 0..length {
@@ -119,7 +113,7 @@ impl CallMaker {
                 }
             }
         }
-        steps
+        Some(steps)
     }
 
     /// A member of a circle is terminated while it holds several mutexes, so that who gets them

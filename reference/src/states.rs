@@ -6,13 +6,14 @@ use std::sync::LazyLock;
 use crate::alter::alter;
 use crate::boundary::{reach, Boundary, BOUNDARIES};
 use crate::clauses::{Clause, CLAUSES};
-use crate::generator::generate_uncounted;
+use crate::generator::generate;
 use crate::kernel::Kernel;
 use crate::lent_state::{resize, shuffle_arrivals, State};
 use crate::limits::*;
 use crate::outcome::Outcome;
 use crate::random::Random;
 use crate::record;
+use crate::tally::Tally;
 use crate::words::*;
 
 /// What a state is made for.
@@ -94,28 +95,18 @@ pub fn state_with_wrong_bit(wrong: WrongBit, seed: u64, index: u64) -> State {
 
 /// A valid state with much going on: the busiest of a few along a script.
 pub fn busy(random: &mut Random) -> State {
-    let script = generate_uncounted(random.word(), random.word(), 10 * TASKS);
-    let (mut at, mut calls) = (0, Vec::new());
+    let script = generate(random.word(), random.word(), 10 * TASKS, &mut Tally::default());
+    let mut kernel = Kernel::fresh();
+    let mut out = Outcome::default();
+    let (mut at, mut along) = (0, vec![State::of(&kernel)]);
     while let Some((call, length)) = record::read(&script[at..]) {
-        calls.push(call);
+        kernel.run(&call, &mut out);
+        along.push(State::of(&kernel));
         at += length;
     }
-    let mut picks: [usize; 4] = std::array::from_fn(|_| random.below(calls.len() + 1));
-    picks.sort_unstable();
-    let (mut kernel, mut out, mut done) = (Kernel::fresh(), Outcome::default(), 0);
-    let along = picks.map(|pick| {
-        calls[done..pick].iter().for_each(|call| kernel.run(call, &mut out));
-        done = pick;
-        State::of(&kernel)
-    });
-    let [first, rest @ ..] = along;
-    rest.into_iter().fold(first, |busiest, state| {
-        if state.activity() > busiest.activity() {
-            state
-        } else {
-            busiest
-        }
-    })
+    let picks: Vec<usize> = (0..4).map(|_| random.below(along.len())).collect();
+    let busiest = picks.into_iter().max_by_key(|&at| along[at].activity()).unwrap_or(0);
+    along.swap_remove(busiest)
 }
 
 /// A state at which exactly the wanted clauses fail: valid ones are altered until one does.

@@ -1,5 +1,5 @@
-//! How often each answer, ended wait, refusal, tail of a send, change of a base and act of a task
-//! with a high number occurred, so that what is missing shows.
+//! How often each answer, ended wait, refusal, tail of a send and change of a base occurred, so
+//! that what is missing shows.
 
 use std::collections::BTreeMap;
 use std::fmt::Write;
@@ -10,7 +10,6 @@ use crate::limits::*;
 use crate::number::TaskNo;
 use crate::outcome::{Answer, Outcome};
 use crate::record::{Call, KINDS};
-use crate::upper_tally::UpperTally;
 
 #[derive(Default)]
 pub struct Tally {
@@ -28,7 +27,6 @@ pub struct Tally {
     /// Dirty tails that were refused, from msgsz 1 on.
     dirty: [u64; MESSAGE - 1],
     bases: BaseTally,
-    upper: UpperTally,
 }
 
 /// Every pair of call and refusal that the table allows.
@@ -77,10 +75,6 @@ const TAILS: [(&str, &[&str]); 6] = [
     ("none, msgsz above 32", &["E_PAR", "E_ID", "E_NOEXS"]),
 ];
 
-/// The last line of a report in which nothing is missing.
-pub const MISSING: &str =
-    "refusals, tails, changes of bases and acts of tasks with high numbers that did not occur";
-
 impl Tally {
     /// Counts a script by how it ends.
     pub fn script(&mut self, end: &'static str) {
@@ -94,7 +88,6 @@ impl Tally {
         *self.answers.entry((row, answer_name(out.answer))).or_default() += 1;
         self.tail(before, call, out.answer);
         self.bases.record(before, call, out, after);
-        self.upper.record(before, call, out, after);
         for ended in &out.ended {
             let wait = match before.task(ended.task).place {
                 Place::Locking(_) => "loc_mtx",
@@ -197,12 +190,11 @@ impl Tally {
         let _ = writeln!(text, "  carried out, from msgsz 1 on: {:?}", self.carried_out);
         let _ = writeln!(text, "  dirty, from msgsz 1 on: {:?}", self.dirty);
         self.bases.report(&mut text);
-        self.upper.report(&mut text);
         let _ = writeln!(text, "ended waits: wait, code, by which call");
         for ((wait, code, row), count) in &self.ended {
             let _ = writeln!(text, "  {wait} {code:<8} {:<8} {count:>10}", KINDS[*row].1);
         }
-        let _ = writeln!(text, "{MISSING}");
+        let _ = writeln!(text, "refusals, tails and changes of bases that did not occur");
         for (code, calls) in REFUSALS {
             for call in calls {
                 let row = KINDS.iter().position(|kind| kind.1 == *call).unwrap_or(0);
@@ -224,7 +216,6 @@ impl Tally {
             let _ = writeln!(text, "  dirty tail of msgsz {msgsz}");
         }
         self.bases.report_missing(&mut text);
-        self.upper.report_missing(&mut text);
         text
     }
 }

@@ -572,9 +572,7 @@ fn states_that_fail_the_clause() {
     assert!(several > 100 && beyond > 100, "{several} {beyond}");
 }
 
-/// Where another clause is to fail, the bitmap follows: it shows a ready task's wrong priority, unless
-/// other ready tasks have that one and the right one too, as they often do where there are more tasks
-/// than priorities.
+/// Where another clause is to fail, the bitmap follows: it shows a ready task's wrong priority.
 #[test]
 fn wrong_priorities_of_ready_tasks() {
     for clause in [Clause::TaskCurrent, Clause::PriorityAfresh] {
@@ -585,7 +583,7 @@ fn wrong_priorities_of_ready_tasks() {
             words[at::CURRENT..][..PER_TASK].copy_from_slice(&afresh);
             shown != bitmap_by_words(&words)
         };
-        let count = (0..400).filter(shows).count();
+        let count = (0..200).filter(shows).count();
         assert!(count > 20, "{clause:?}: {count}");
     }
 }

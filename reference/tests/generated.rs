@@ -5,11 +5,11 @@ mod common;
 use std::process::{Command, Stdio};
 
 use common::*;
-use reference::generator::{generate, generate_uncounted, RECORDS};
+use reference::generator::{generate, RECORDS};
 use reference::limits::SCRIPT;
 use reference::run_script;
 use reference::selfcheck::self_check;
-use reference::tally::{Tally, MISSING};
+use reference::tally::Tally;
 
 #[test]
 fn generated_scripts_check_out() {
@@ -19,7 +19,8 @@ fn generated_scripts_check_out() {
         self_check(&script).unwrap_or_else(|what| panic!("script {index}: {what}"));
     }
     let report = tally.report();
-    assert!(report.ends_with(&format!("{MISSING}\n")), "{report}");
+    let missing = "refusals, tails and changes of bases that did not occur\n";
+    assert!(report.ends_with(missing), "{report}");
 }
 
 #[test]
@@ -36,7 +37,6 @@ fn a_seed_gives_the_same_scripts() {
     let make = |seed: u64, index: u64| generate(seed, index, 80, &mut Tally::default());
     for index in 0..50 {
         assert_eq!(make(5, index), make(5, index));
-        assert_eq!(make(5, index), generate_uncounted(5, index, 80));
     }
     assert_ne!(make(5, 1), make(5, 2));
     assert_ne!(make(5, 1), make(6, 1));

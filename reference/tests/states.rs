@@ -5,12 +5,11 @@ use std::process::{Command, Stdio};
 
 use reference::boundary::BOUNDARIES;
 use reference::check;
-use reference::clauses::{afresh, failing, Clause, CLAUSES};
+use reference::clauses::{failing, Clause, CLAUSES};
 use reference::lent_state::State;
 use reference::limits::*;
 use reference::random::Random;
 use reference::states::{busy, state, state_at_boundary, state_failing, Kind};
-use reference::upper_tally::HALF;
 use reference::words::*;
 
 /// States that each clause and each boundary is tried on.
@@ -126,8 +125,6 @@ fn features(state: &State) -> Vec<(&'static str, bool)> {
     let steps =
         |t: usize, count: usize| (0..count).try_fold(t, |t, _| step(t).map(|next| next as usize));
     let waits = |t: usize| word(at::PLACE, t) >= LOCKING;
-    let high = |place: u32| tasks(&|t| t > HALF && word(at::PLACE, t) == place);
-    let in_circle = |t: usize| (2..=MUTEXES).any(|count| steps(t, count) == Some(t));
     let pools_full = (1..PER_POOL).any(|p| {
         let flags = &state.words[at::FLAGS + p * PER_BLOCK..][..PER_BLOCK];
         word(at::POOL_EXISTS, p) == 1 && flags.iter().sum::<u32>() == word(at::COUNT, p)
@@ -140,18 +137,6 @@ fn features(state: &State) -> Vec<(&'static str, bool)> {
         ("sending", at(SENDING)),
         ("receiving", at(RECEIVING)),
         ("getting", at(GETTING)),
-        ("high dormant", high(DORMANT)),
-        ("high ready", high(READY)),
-        ("high locking", high(LOCKING)),
-        ("high sending", high(SENDING)),
-        ("high receiving", high(RECEIVING)),
-        ("high getting", high(GETTING)),
-        ("high holder", (1..PER_MUTEX).any(|m| word(at::HOLDER, m) > HALF as u32)),
-        ("high in chain of three", tasks(&|t| t > HALF && steps(t, 3).is_some())),
-        ("high in circle", tasks(&|t| t > HALF && in_circle(t))),
-        ("last task waits", waits(TASKS)),
-        ("more than half wait", (1..PER_TASK).filter(|&t| waits(t)).count() > HALF),
-        ("every task started", !at(ABSENT) && !at(DORMANT)),
         ("every task in use", !at(ABSENT)),
         ("none ready", !at(READY)),
         ("several senders", (1..PER_BUFFER).any(|b| senders(state, b) > 1)),
@@ -166,7 +151,7 @@ fn features(state: &State) -> Vec<(&'static str, bool)> {
         ),
         ("awaited ceiling", tasks(&|t| locks(t) && attribute(t) == 3)),
         ("chain of three", tasks(&|t| steps(t, 3).is_some())),
-        ("circle", tasks(&in_circle)),
+        ("circle", tasks(&|t| (2..5).any(|count| steps(t, count) == Some(t)))),
         ("inherited", tasks(&|t| word(at::CURRENT, t) < word(at::BASE, t))),
         ("full pool", pools_full),
         ("timeout", tasks(&|t| waits(t) && word(at::LEFT, t) != ENDLESS)),
@@ -193,138 +178,6 @@ fn valid_states_are_busy() {
         }
     }
     assert!(seen.values().all(|&count| count >= 20), "{seen:?}");
-}
-
-/// Clauses that a task's own words can fail, or those of what it waits for or holds.
-const OF_TASKS: [Clause; 29] = [
-    Clause::TaskPlace,
-    Clause::TaskInitial,
-    Clause::TaskBase,
-    Clause::TaskCurrent,
-    Clause::TaskUnused,
-    Clause::WaitMutex,
-    Clause::WaitBuffer,
-    Clause::WaitPool,
-    Clause::WaitLength,
-    Clause::NoWait,
-    Clause::LeftSome,
-    Clause::LeftMost,
-    Clause::ArrivalNumber,
-    Clause::ArrivalStarted,
-    Clause::ArrivalOnce,
-    Clause::ArrivalEach,
-    Clause::ArrivalZeros,
-    Clause::DormantHolder,
-    Clause::PriorityAfresh,
-    Clause::Bitmap,
-    Clause::BaseAboveHeld,
-    Clause::BaseAboveAwaited,
-    Clause::OwnMutex,
-    Clause::FreeMutex,
-    Clause::FreeBlock,
-    Clause::ReceiverBesideMessage,
-    Clause::ReceiverBesideSender,
-    Clause::SenderFits,
-    Clause::OutboxRest,
-];
-
-/// The tasks at which a clause fails, told from the words; at the arrivals' own clauses the numbers
-/// of the entries.
-fn failing_tasks(clause: Clause, state: &State) -> Vec<usize> {
-    let word = |list: usize, number: usize| state.words[list + number];
-    let place = |t: usize| word(at::PLACE, t);
-    let object = |t: usize| word(at::OBJECT, t) as usize;
-    let is_priority = |list: usize, t: usize| (1..=16).contains(&word(list, t));
-    let waits = |t: usize| place(t) >= LOCKING;
-    let at = |wait: u32, number: usize| move |t: usize| place(t) == wait && object(t) == number;
-    let any = |wait: u32, number: usize| (1..PER_TASK).any(at(wait, number));
-    // Whether the mutex, buffer or pool that a task waits for is another than one that exists.
-    let nowhere = |t: usize, list: usize, numbers: usize| {
-        !(1..=numbers).contains(&object(t)) || word(list, object(t)) == 0
-    };
-    let fields = |t: usize, lists: &[usize]| lists.iter().any(|&list| word(list, t) != 0);
-    let is_above = |t: usize, m: usize| word(at::BASE, t) < word(at::CEILING, m);
-    let holds = |t: usize| (1..PER_MUTEX).filter(move |&m| word(at::HOLDER, m) == t as u32);
-    let entry = |i: usize| word(at::ARRIVALS, i - 1);
-    let entries = |t: usize| (1..=TASKS).filter(|&i| entry(i) == t as u32).count();
-    let free_block = |p: usize| {
-        let blocks = 1..=word(at::COUNT, p) as usize;
-        blocks.into_iter().any(|block| word(at::FLAGS, p * PER_BLOCK + block) == 0)
-    };
-    let part = |t: usize| &state.outbox[(t - 1) * MESSAGE..t * MESSAGE];
-    let afresh = afresh(&state.words);
-    let fails = |&t: &usize| match clause {
-        Clause::TaskPlace => place(t) > GETTING,
-        Clause::TaskInitial => place(t) != ABSENT && !is_priority(at::INITIAL, t),
-        Clause::TaskBase => place(t) != ABSENT && !is_priority(at::BASE, t),
-        Clause::TaskCurrent => place(t) != ABSENT && !is_priority(at::CURRENT, t),
-        Clause::TaskUnused => place(t) == ABSENT && fields(t, &TASK_LISTS[1..]),
-        Clause::WaitMutex => place(t) == LOCKING && nowhere(t, at::MUTEX_EXISTS, MUTEXES),
-        Clause::WaitBuffer => {
-            [SENDING, RECEIVING].contains(&place(t)) && nowhere(t, at::BUFFER_EXISTS, BUFFERS)
-        }
-        Clause::WaitPool => place(t) == GETTING && nowhere(t, at::POOL_EXISTS, POOLS),
-        Clause::WaitLength => {
-            let lengths = 1..=word(at::MAXMSZ, object(t));
-            place(t) == SENDING && !lengths.contains(&word(at::ARGUMENT, t))
-        }
-        Clause::NoWait if waits(t) => place(t) != SENDING && word(at::ARGUMENT, t) != 0,
-        Clause::NoWait => place(t) != ABSENT && fields(t, &[at::OBJECT, at::ARGUMENT, at::LEFT]),
-        Clause::LeftSome => waits(t) && word(at::LEFT, t) == 0,
-        Clause::LeftMost => waits(t) && (1 << 31..ENDLESS).contains(&word(at::LEFT, t)),
-        Clause::ArrivalNumber => entry(t) > TASKS as u32,
-        Clause::ArrivalZeros => t > 1 && entry(t) != 0 && entry(t - 1) == 0,
-        Clause::ArrivalStarted => entries(t) > 0 && place(t) < READY,
-        Clause::ArrivalOnce => entries(t) > 1,
-        Clause::ArrivalEach => entries(t) == 0 && place(t) >= READY,
-        Clause::DormantHolder => place(t) < READY && holds(t).next().is_some(),
-        Clause::PriorityAfresh => place(t) != ABSENT && word(at::CURRENT, t) != afresh[t],
-        Clause::Bitmap => {
-            place(t) == READY && word(at::BITMAP, 0) >> (word(at::CURRENT, t) - 1) & 1 == 0
-        }
-        Clause::BaseAboveHeld => holds(t).any(|m| is_above(t, m)),
-        Clause::BaseAboveAwaited => place(t) == LOCKING && is_above(t, object(t)),
-        Clause::OwnMutex => place(t) == LOCKING && holds(t).any(|m| m == object(t)),
-        Clause::FreeMutex => place(t) == LOCKING && word(at::HOLDER, object(t)) == 0,
-        Clause::FreeBlock => place(t) == GETTING && free_block(object(t)),
-        Clause::ReceiverBesideMessage => place(t) == RECEIVING && word(at::USED, object(t)) > 0,
-        Clause::ReceiverBesideSender => place(t) == RECEIVING && any(SENDING, object(t)),
-        Clause::SenderFits => {
-            let free = |b: usize| (word(at::BUFSZ, b) - word(at::USED, b)) as usize;
-            place(t) == SENDING && cost(word(at::ARGUMENT, t) as usize) <= free(object(t))
-        }
-        Clause::OutboxRest => {
-            let sent = if place(t) == SENDING { word(at::ARGUMENT, t) as usize } else { 0 };
-            part(t)[sent..].iter().any(|&byte| byte != 0)
-        }
-        other => panic!("{other:?} is not about tasks"),
-    };
-    (1..PER_TASK).filter(fails).collect()
-}
-
-/// Each clause fails at tasks of the upper half alone: a check of the lower half would let it pass.
-#[test]
-fn every_clause_fails_at_high_tasks() {
-    for clause in OF_TASKS {
-        let (mut tried, mut high) = (0, 0);
-        while high < 3 && tried < 400 {
-            let failing = failing_tasks(clause, &state_failing(clause, 9, tried));
-            // A bit that no ready task has is no task's.
-            assert!(clause == Clause::Bitmap || !failing.is_empty(), "{clause:?}");
-            high += usize::from(!failing.is_empty() && failing.iter().all(|&t| t > HALF));
-            tried += 1;
-        }
-        assert!(high == 3, "{clause:?}: {high} of {tried}");
-    }
-}
-
-#[test]
-fn other_lengths_of_the_outbox() {
-    let states = (0..100).map(|index| state_failing(Clause::OutboxLength, 9, index));
-    let lengths: Vec<usize> = states.map(|state| state.outbox.len()).collect();
-    for length in [512, 1_023, 1_025, 2_048] {
-        assert!(lengths.contains(&length), "{length}: {lengths:?}");
-    }
 }
 
 #[test]

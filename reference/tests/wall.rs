@@ -46,17 +46,17 @@ fn rows_as_text() {
             (4, task(TTS_DMT, 10, 10, 0, 0, 0)),
             (9, task(TTS_WAI, 16, 16, 0x30, 4, 1)),
             (12, task(TTS_WAI, 5, 3, 0x20, 2, 250)),
-            (32, task(TTS_WAI, 16, 1, 0x10, 8, i32::MAX)),
+            (16, task(TTS_WAI, 16, 1, 0x10, 8, i32::MAX)),
         ],
         mutexes: vec![
             (1, MutexRow { holder: 2, waiter: 12 }),
             (2, MutexRow { holder: 0, waiter: 0 }),
-            (8, MutexRow { holder: 32, waiter: 0 }),
+            (8, MutexRow { holder: 16, waiter: 0 }),
         ],
         buffers: vec![
             (1, BufferRow { free: 256, room: 220, next: 0, receiver: 3, sender: 0 }),
             (2, BufferRow { free: 0, room: -36, next: 32, receiver: 0, sender: 12 }),
-            (4, BufferRow { free: 8, room: 0, next: 0, receiver: 32, sender: 0 }),
+            (4, BufferRow { free: 8, room: 0, next: 0, receiver: 16, sender: 0 }),
         ],
         pools: vec![
             (1, PoolRow { free: 3, waiter: 0 }),
@@ -72,17 +72,17 @@ task  state    base  current  waits for  time left
    4  dormant    10       10  -          -
    9  waiting    16       16  pool 4     1 ms
   12  waiting     5        3  buffer 2   250 ms
-  32  waiting    16        1  mutex 8    2147483647 ms
+  16  waiting    16        1  mutex 8    2147483647 ms
 
 mutex  holder   first waiter
     1  task 2   task 12
     2  -        -
-    8  task 32  -
+    8  task 16  -
 
 buffer  free bytes  room for maxmsz  next message  first receiver  first sender
      1         256              220             -  task 3          -
      2           0              -36            32  -               task 12
-     4           8                0             -  task 32         -
+     4           8                0             -  task 16         -
 
 pool  free blocks  first waiter
    1            3  -

@@ -24,7 +24,7 @@ pub struct Called {
     pub written: usize,
 }
 
-// Order 1: "state not sound, or an area not exactly" STORE_BYTES or OUTBOX_BYTES long: the areas stay as they came, but for the log.
+// Order 1: "state not sound, or an area not exactly 1,024 or 512 bytes": the areas stay as they came, but for the log.
 fn not_valid(log: &mut [u8]) -> Called
     ensures { NotValid log.old log.new result }
 {

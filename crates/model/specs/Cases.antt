@@ -1,18 +1,18 @@
--- 01, "On both sides of the mark": every bullet that has a [P], whole, and beside them a case for sentences that no bullet holds, and both sides of 02's requests Two, Five, Eight and Nine, as
--- one table under one statement, proved by computing; and of the requests Three, Eight and Nine what is no run from the fresh state, or is seen after each call, under statements of its own.
-use Rattle.std.specs.Prelude.{ℕ, suc, pred, ◌+◌, ◌-◌, ◌^◌, ◌≡◌, refl, true, false, not, cond, length, get_or, ℤ, pos, eqb}
+-- 01, "On both sides of the mark": every bullet that has a [P], whole, and beside them a case for sentences that no bullet holds, and both sides of 02's requests Two, Five and Nine, as
+-- one table under one statement, proved by computing; and the numbers of request Nine and the bits of request Three, tables of their own.
+use Rattle.std.specs.Prelude.{ℕ, suc, pred, ◌+◌, ◌-◌, ◌^◌, ◌≡◌, refl, true, false, not, length, get_or, ℤ, pos, eqb}
 use mathlib.Core.List.{List, [], ◌∷◌, ◌++◌, map, foldl}
 use Rattle.model.specs.declared.call.Call.{Call}
-use Rattle.model.specs.declared.call.Call.TheVariants.{CreTsk, DelTsk, StaTsk, ExtTsk, TerTsk, ChgPri, CreMtx, LocMtx, UnlMtx, CreMbf, DelMbf, SndMbf, RcvMbf, CreMpf, GetMpf, RelMpf, Tick}
+use Rattle.model.specs.declared.call.Call.TheVariants.{CreTsk, StaTsk, ExtTsk, ChgPri, CreMtx, LocMtx, UnlMtx, CreMbf, DelMbf, SndMbf, RcvMbf, CreMpf, GetMpf, RelMpf, Tick}
 use Rattle.model.specs.declared.call.Answer.{Answer}
 use Rattle.model.specs.declared.call.Answer.TheVariants.{Code, Waits}
-use Rattle.model.specs.Sizes.{tasks, priorities, mutexes, message_bytes, store_bytes, outbox_bytes}
-use Rattle.model.specs.Lists.{◌!◌, count_from, up_to, zeros, padded}
+use Rattle.model.specs.Sizes.{message_bytes, store_bytes, outbox_bytes}
+use Rattle.model.specs.Lists.{◌!◌, count_from, up_to, zeros}
 use Rattle.model.specs.Bits.{with_bit}
-use Rattle.model.specs.Code.{minus, E_OK, E_SYS, E_PAR, E_ID, E_NOEXS, E_ILUSE, E_LIMIT, E_TMOUT, E_DLT, saturated, number}
-use Rattle.model.specs.Facts.{absent, dormant, ready, queue, locking, receiving}
-use Rattle.model.specs.Kernel.{Tasks, with_tasks, with_arrivals, with_bitmap, fresh}
-use Rattle.model.specs.World.{Lent, Delivery, Nothing, Message, Block, queue_front, running, with_fresh_bits}
+use Rattle.model.specs.Code.{minus, E_OK, E_SYS, E_PAR, E_NOEXS, E_ILUSE, E_TMOUT, E_DLT, saturated, number}
+use Rattle.model.specs.Facts.{queue, locking}
+use Rattle.model.specs.Kernel.{with_bitmap, fresh}
+use Rattle.model.specs.World.{Lent, Delivery, Nothing, Message, Block, queue_front, running}
 use Rattle.model.specs.Message.{part, room}
 use Rattle.model.specs.Record.{fields_of}
 use Rattle.model.specs.Valid.{valid}
@@ -564,76 +564,6 @@ circle_keeps_up = in_queue_of_circle (pos 5) 3
 circle_exactly : Case
 circle_exactly = in_queue_of_circle (pos 2) 4
 
--- ---- 02, request Eight: "Tasks go to 32, the sending bay to 1,024 bytes; priorities stay 1 to 16. 01's number range, E_ID, E_LIMIT, bay length (512 is now -5) and order of
--- simultaneous timeouts follow"; the lengths stand below, with the store's
-
--- Tasks as these functions of a number say, which have arrived in this order: places, objects waited for, priorities (initial, base and current), milliseconds left. What
--- else is lent stays, but for the bits. Of a state that is not valid no case below would hold: its calls would be -5 and change nothing.
-abbrev with_each : Lent → (ℕ → ℕ) → (ℕ → ℕ) → (ℕ → ℕ) → (ℕ → ℕ) → List ℕ → Lent
-with_each x place object priority left order =
-    let each : (ℕ → ℕ) → List ℕ = λ f. 0 ∷ map f (up_to tasks) in
-    let ts : Tasks =
-    record {
-      place = each place;
-      object = each object;
-      argument = each (λ t. 0);
-      initial = each priority;
-      base = each priority;
-      current = each priority;
-      left = each left;
-    } in
-    record { kernel = with_fresh_bits (with_arrivals (with_tasks x.kernel ts) (padded tasks order)); store = x.store; outbox = x.outbox }
-
--- "every number of the kind in use", "number outside its range": task 1 runs and the others are dormant, but that the last number is free. It names no task; a priority beyond
--- the last is none, and the number stays free; it is given; one task more is E_LIMIT, and a number beyond the last is E_ID wherever a task's is given; the last task runs.
-abbrev pub LastNumberHolds : Type 0
-LastNumberHolds =
-    let beyond = pos (suc tasks) in
-    happens sent_bytes (runs ∷ [])
-    (with_each fresh_lent (λ t. cond (eqb t tasks) absent (cond (eqb t 1) ready dormant)) (λ t. 0) (λ t. cond (eqb t tasks) 0 8) (λ t. 0) (1 ∷ []))
-    (StaTsk (pos tasks) ∷ CreTsk (pos (suc priorities)) ∷ ChgPri (pos 1) (pos (suc priorities)) ∷ CreTsk (pos 7) ∷ CreTsk (pos 7)
-    ∷ DelTsk beyond ∷ StaTsk beyond ∷ TerTsk beyond ∷ ChgPri beyond (pos 7) ∷ StaTsk (pos tasks) ∷ [])
-    ≡ seen
-    (Code E_NOEXS ∷ Code E_PAR ∷ Code E_PAR ∷ new tasks ∷ Code E_LIMIT ∷ Code E_ID ∷ Code E_ID ∷ Code E_ID ∷ Code E_ID ∷ OK ∷ [])
-    [] [] (tasks ∷ [])
-
--- "several in task order": every task waits for a message with a millisecond left, the last task longest; all time out in one tick
-abbrev pub AllTimeOut : Type 0
-AllTimeOut =
-    happens sent_bytes (runs ∷ [])
-    (with_each (step fresh_lent (CreMbf (pos 0) (pos 0) (pos 1)) []).lent (λ t. receiving) (λ t. 1) (λ t. 8) (λ t. 1) (map (λ t. suc tasks - t) (up_to tasks)))
-    (Tick ∷ [])
-    ≡ seen (OK ∷ []) (map (λ t. (t, E_TMOUT)) (up_to tasks)) [] (1 ∷ [])
-
--- "or through a chain of such steps. In a circle of such steps every member is linked to every other": the longest that there are mutexes for, of the last tasks. Link 0 holds
--- nothing; each other link holds the mutex of its number, and waits for the next one but for the last link, which waits for none yet. Their priorities are 4, 5 and so on; task 1
--- has the least urgent.
-abbrev link : ℕ → ℕ
-link i = tasks - mutexes + i
-
-abbrev link_calls : ℕ → List Call
-link_calls i = StaTsk (pos (link i)) ∷ LocMtx (pos i) forever ∷ LocMtx (pos (suc i)) forever ∷ []
-
-abbrev longest_chain : List Call
-longest_chain =
-    map (λ m. CreMtx (pos 2) (pos 0)) (up_to mutexes)
-    ++ StaTsk (pos (link mutexes)) ∷ LocMtx (pos mutexes) forever ∷ foldl (λ cs i. link_calls i ++ cs) (StaTsk (pos (link 0)) ∷ []) (up_to (pred mutexes))
-
--- the current priorities of links 1 to the last after each of some calls
-abbrev priorities_after : Lent → List Call → List (List ℕ)
-priorities_after x [] = []
-priorities_after x (c ∷ cs) = let y = (step x c []).lent in map (λ i. current (link i) y) (up_to mutexes) ∷ priorities_after y cs
-
--- Link 0 waits for mutex 1, times out, and waits again; then the last link waits for mutex 1, so that there is a circle and link 0 waits for one in it. Link 0 times out and
--- gives the last link priority 2.
-abbrev pub LongestHold : Type 0
-LongestHold =
-    priorities_after
-    (foldl (λ x c. (step x c []).lent)
-    (with_each fresh_lent (λ t. cond (eqb t 1) ready dormant) (λ t. 0) (λ t. cond (eqb t 1) priorities (4 + (t - link 0))) (λ t. 0) (1 ∷ [])) longest_chain)
-    (LocMtx (pos 1) (pos 1) ∷ Tick ∷ LocMtx (pos 1) (pos 1) ∷ LocMtx (pos 1) forever ∷ Tick ∷ ChgPri (pos (link mutexes)) (pos 2) ∷ [])
-    ≡ map (λ p. map (λ i. p) (up_to mutexes)) (4 ∷ 5 ∷ 4 ∷ 4 ∷ 5 ∷ 2 ∷ [])
-
 -- ---- refusals
 
 -- "Unlock of another's mutex: -28."
@@ -643,27 +573,17 @@ not_held =
     (second ++ CreMtx (pos 2) (pos 0) ∷ LocMtx (pos 1) forever ∷ CreMbf (pos 0) (pos 0) (pos 1) ∷ RcvMbf (pos 1) forever ∷ UnlMtx (pos 1) ∷ [])
     (current 1 ∷ []) (seen (new 2 ∷ OK ∷ new 1 ∷ OK ∷ new 1 ∷ Waits ∷ Code E_ILUSE ∷ []) [] [] (8 ∷ []))
 
--- "Store of 1,023 or 1,025 bytes: -5."; 02, request Eight: "bay length (512 is now -5)"
-abbrev lengths_of : ℕ → ℕ → Answer → Case
-lengths_of store outbox answer =
+-- "Store of 1,023 or 1,025 bytes: -5."
+abbrev store_of : ℕ → Answer → Case
+store_of n answer =
     record {
       calls = Tick ∷ [];
-      store = store;
-      outbox = outbox;
+      store = n;
+      outbox = outbox_bytes;
       bytes = sent_bytes;
       watched = [];
       seen = record { answers = answer ∷ []; ended = []; delivered = []; numbers = [] };
     }
-
-abbrev of_lengths : List Case
-of_lengths =
-    lengths_of store_bytes outbox_bytes OK
-    ∷ lengths_of (pred store_bytes) outbox_bytes (Code E_SYS)
-    ∷ lengths_of (suc store_bytes) outbox_bytes (Code E_SYS)
-    ∷ lengths_of store_bytes (pred outbox_bytes) (Code E_SYS)
-    ∷ lengths_of store_bytes (suc outbox_bytes) (Code E_SYS)
-    ∷ lengths_of store_bytes 512 (Code E_SYS)
-    ∷ []
 
 -- ---- the table
 
@@ -733,7 +653,10 @@ table =
     ∷ circle_keeps_up
     ∷ circle_exactly
     ∷ not_held
-    ∷ of_lengths
+    ∷ store_of (pred store_bytes) (Code E_SYS)
+    ∷ store_of store_bytes OK
+    ∷ store_of (suc store_bytes) (Code E_SYS)
+    ∷ []
 
 -- What happens in every case is what must be seen.
 abbrev pub AllHold : List Case → Type 0
@@ -997,14 +920,14 @@ not_held-holds : observed not_held ≡ not_held.seen
 unfolding compute observed not_held
 not_held-holds = refl
 
-of_lengths-holds : AllHold of_lengths
+store_of-holds : AllHold (store_of (pred store_bytes) (Code E_SYS) ∷ store_of store_bytes OK ∷ store_of (suc store_bytes) (Code E_SYS) ∷ [])
 unfolding compute observed
-of_lengths-holds = (refl, (refl, (refl, (refl, (refl, (refl, tt))))))
+store_of-holds = (refl, (refl, (refl, tt)))
 
 pub cases : AllHold table
 unfolding table
 cases =
-    (no_message-holds, (one_byte-holds, (eighth_waits-holds, (too_small-holds, (just_fits-holds, (oldest_first-holds, (handed_over-holds, (few_bytes-holds, (longest_message-holds, (timeouts-holds, (ceilings-holds, (no_passing-holds, (last_drained-holds, (sender_deleted-holds, (next_dirty-holds, (last_dirty-holds, (dirty_behind31-holds, (clean_tail-holds, (no_tail-holds, (beyond_message-holds, (too_long-holds, (too_long_clean-holds, (too_long_missing-holds, (dirty_missing-holds, (dirty_numberless-holds, (one_lacking28-holds, (exactly28-holds, (one_over28-holds, (one_lacking29-holds, (exactly29-holds, (one_over29-holds, (three_over-holds, (no_room-holds, (last_exactly-holds, (last_lacking-holds, (last_byte_lacking-holds, (still_lacking-holds, (now_exactly-holds, (chain_raises-holds, (chain_lowers-holds, (circle_stands-holds, (circle_raises-holds, (circle_lowers-holds, (not_raised-holds, (initial_again-holds, (equal_afterwards-holds, (kept_up-holds, (raised_exactly-holds, (kept_up_afterwards-holds, (kept_up_lowered-holds, (holder_lowered-holds, (ceiling_keeps_up-holds, (ceiling_exactly-holds, (pool_kept_up-holds, (pool_exactly-holds, (pool_not_raised-holds, (arrival_kept_up-holds, (arrival_exactly-holds, (arrival_not_raised-holds, (sender_kept_up-holds, (sender_exactly-holds, (circle_keeps_up-holds, (circle_exactly-holds, (not_held-holds, of_lengths-holds))))))))))))))))))))))))))))))))))))))))))))))))))))))))))))))))
+    (no_message-holds, (one_byte-holds, (eighth_waits-holds, (too_small-holds, (just_fits-holds, (oldest_first-holds, (handed_over-holds, (few_bytes-holds, (longest_message-holds, (timeouts-holds, (ceilings-holds, (no_passing-holds, (last_drained-holds, (sender_deleted-holds, (next_dirty-holds, (last_dirty-holds, (dirty_behind31-holds, (clean_tail-holds, (no_tail-holds, (beyond_message-holds, (too_long-holds, (too_long_clean-holds, (too_long_missing-holds, (dirty_missing-holds, (dirty_numberless-holds, (one_lacking28-holds, (exactly28-holds, (one_over28-holds, (one_lacking29-holds, (exactly29-holds, (one_over29-holds, (three_over-holds, (no_room-holds, (last_exactly-holds, (last_lacking-holds, (last_byte_lacking-holds, (still_lacking-holds, (now_exactly-holds, (chain_raises-holds, (chain_lowers-holds, (circle_stands-holds, (circle_raises-holds, (circle_lowers-holds, (not_raised-holds, (initial_again-holds, (equal_afterwards-holds, (kept_up-holds, (raised_exactly-holds, (kept_up_afterwards-holds, (kept_up_lowered-holds, (holder_lowered-holds, (ceiling_keeps_up-holds, (ceiling_exactly-holds, (pool_kept_up-holds, (pool_exactly-holds, (pool_not_raised-holds, (arrival_kept_up-holds, (arrival_exactly-holds, (arrival_not_raised-holds, (sender_kept_up-holds, (sender_exactly-holds, (circle_keeps_up-holds, (circle_exactly-holds, (not_held-holds, store_of-holds))))))))))))))))))))))))))))))))))))))))))))))))))))))))))))))))
 
 pub rooms-hold : RoomsHold
 unfolding compute
@@ -1020,18 +943,6 @@ bits-hold = refl
 pub wrong-bits-fail : WrongBitsFail
 unfolding compute
 wrong-bits-fail = refl
-
-pub last-number-holds : LastNumberHolds
-unfolding compute
-last-number-holds = refl
-
-pub all-time-out : AllTimeOut
-unfolding compute
-all-time-out = refl
-
-pub longest-hold : LongestHold
-unfolding compute
-longest-hold = refl
 
 -- the fresh state is valid
 pub fresh-valid : valid fresh_lent ≡ true

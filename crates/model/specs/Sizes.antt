@@ -1,9 +1,9 @@
--- The numbers of document 01's first table and of its formats, as 02 amends them, each said once.
+-- The numbers of document 01's first table and of its formats, each said once.
 use Rattle.std.specs.Prelude.{ℕ, ◌*◌, ◌-◌, ◌^◌}
 
--- "task | 1 to 16"; 02, request Eight: "Tasks go to 32"
+-- "task | 1 to 16"
 abbrev pub tasks : ℕ
-tasks = 32
+tasks = 16
 
 -- "priority 1 to 16, 1 most urgent"
 abbrev pub priorities : ℕ
@@ -39,8 +39,8 @@ block_bytes = 256
 abbrev pub pool_bytes : ℕ
 pool_bytes = 4096
 
--- "the store of 1,024 bytes (256 for each buffer, in order) and the sending bay of 512 (32 for each task, in order)"; 02, request Eight: "the sending bay to
--- 1,024 bytes". The sending bay is the outbox here.
+-- "the store of 1,024 bytes (256 for each buffer, in order) and the sending bay of 512 (32 for each task, in order)";
+-- the sending bay is the outbox here
 abbrev pub store_bytes : ℕ
 store_bytes = buffers * region_bytes
 

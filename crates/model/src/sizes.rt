@@ -1,8 +1,8 @@
-// The sizes of document 01's first table, as 02 amends it. specs/Sizes.antt has the same numbers for the definitions: a function whose
+// The sizes of document 01's first table. specs/Sizes.antt has the same numbers for the definitions: a function whose
 // contract cites a size there and whose code uses another one here is refused.
 
 // Objects are numbered from 1; 0 stands for none.
-pub const TASKS: u32 = 32;
+pub const TASKS: u32 = 16;
 
 pub const MUTEXES: u32 = 8;
 

@@ -3,7 +3,7 @@ use Prim.Native.Nat.{ℕ, zero, suc, ◌-◌, ◌≤◌, ◌<◌}
 use native.Mathlib.Nat.{sub-zero, suc-sub-suc}
 use native.Mathlib.Decide.{ℕ_discrete}
 use native.Mathlib.Omega.{arith}
-use mathlib.Core.Path.{◌≡◌, ◌∙◌, refl, sym, ap}
+use mathlib.Core.Path.{◌≡◌, ◌∙◌, refl, sym, ap, subst}
 use mathlib.Core.Logic.{◌≢◌, ◌⊎◌, inl, inr}
 use mathlib.Core.Bool.{Bool, true, false, ◌&&◌, ◌||◌, not, false≢true, and-false, and-eq-true_iff}
 use mathlib.Core.List.{List, [], ◌∷◌, ◌++◌, append-nil}
@@ -236,7 +236,7 @@ module _ (t : ℕ) (low : 1 ≤ t) (high : t ≤ tasks) (ts : List ℕ) (listed 
   others-once u = go (ℕ_discrete u t)
     where
       go : Dec (u ≡ t) → occurrences u (t ∷ others t ts) ≤ 1
-      go (yes e) = rw (e, eq-eqb t t refl) (let a = others-gone in omega arith)
+      go (yes e) = subst (λ (v : ℕ). occurrences v (t ∷ others t ts) ≤ 1) (sym e) (rw (eq-eqb t t refl) (let a = others-gone in omega arith))
       go (no d) = rw (ne_eqb u t d) (others-few u d)
 
   others-in : (u : ℕ) → member u (others t ts) ≡ true → (u ≢ 0) × (u ≤ tasks)

@@ -58,7 +58,7 @@ module _ {A : Type 0} (kind : Kind A) {entries : List ℕ} {n : ℕ} (asked : Un
 abbrev pub AskedAny : {A : Type 0} → Kind A → (ℕ → Bool) → ℕ → Type 0
 AskedAny kind p n = Rest kind (any p) n (any p (up_to kind.last))
 
-module _ {A : Type 0} {kind : Kind A} {p : ℕ → Bool} {n : ℕ} {whole : Bool} (left : Rest kind (any p) n whole) where
+module _ {A : Type 0} {kind : Kind A} (p : ℕ → Bool) {n : ℕ} {whole : Bool} (left : Rest kind (any p) n whole) where
   module _ {found : A} (made : found ≡ kind.make (word_number n kind.last)) {x : ℕ} (some : found ≡ kind.some x) {r : Bool} (e : r ≡ p x) where
     pub any_here : r ≡ true → true ≡ whole
     any_here t = sym (kind-here left made some ∙ or_left (p x) _ (sym e ∙ t))

@@ -10,10 +10,6 @@ use Rattle.priority.proofs.WordLaws.{onto, turn}
 use Rattle.priority.proofs.StartLaws.{bases_so_far, bases-start, bases-step, bases-all}
 use Rattle.priority.proofs.start_from_bases.Goals as goal
 
--- from the loop's head: back to where the priorities were cleared
-abbrev clear : tie.At-loop invariant-loop decreases-loop → tie.After-set-every-current invariant-loop decreases-loop
-clear head = head.before.before.before
-
 pub loop-n-init : goal.loop-n-init
 loop-n-init c = let r = c.set_every_current.ensures in (record { length = r.length; kernel = rw r.kernel (bases-start _) }, omega arith)
 
@@ -26,4 +22,4 @@ loop-n-preserved c = (turn bases_so_far (λ k n. with_current k n (base_of k n))
 pub returns : goal.returns
 returns c =
     let e : c.loop-n.n ≡ tasks = omega arith in
-    onto c.loop-n.invariant.0 (ap (bases_so_far _) e ∙ ap (λ (k : Kernel). bases_so_far k tasks) (clear c).set-every-current.ensures.kernel ∙ bases-all _)
+    onto c.loop-n.invariant.0 (ap (bases_so_far _) e ∙ ap (λ (k : Kernel). bases_so_far k tasks) c.set_every_current.ensures.kernel ∙ bases-all _)

@@ -9,10 +9,6 @@ use Rattle.priority.proofs.WordLaws.{onto, turn}
 use Rattle.priority.proofs.StartLaws.{holders_so_far, holders-start, holders-step, holders-all, own-again}
 use Rattle.priority.proofs.start_from_own.Goals as goal
 
--- from the loop's head: back to where every task had its base priority
-abbrev bases : tie.At-loop invariant-loop decreases-loop → tie.After-start-from-bases invariant-loop decreases-loop
-bases head = head.before.before.before
-
 pub loop-n-init : goal.loop-n-init
 loop-n-init c = let r = c.start_from_bases.ensures in (record { length = r.length; kernel = rw r.kernel (holders-start _) }, omega arith)
 
@@ -25,4 +21,4 @@ loop-n-preserved c = (turn holders_so_far holder_at_own _ _ c.loop-n.invariant.0
 pub returns : goal.returns
 returns c =
     let e : c.loop-n.n ≡ mutexes = omega arith in
-    onto c.loop-n.invariant.0 (ap (holders_so_far _) e ∙ holders-all _ ∙ ap at_own (bases c).start-from-bases.ensures.kernel ∙ own-again _)
+    onto c.loop-n.invariant.0 (ap (holders_so_far _) e ∙ holders-all _ ∙ ap at_own c.start_from_bases.ensures.kernel ∙ own-again _)

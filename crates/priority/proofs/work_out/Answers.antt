@@ -11,10 +11,6 @@ use Rattle.priority.proofs.WalkLaws.{place-length}
 use Rattle.priority.proofs.PassLaws.{passed_so_far, passed_start, passed-step, passed-done}
 use Rattle.priority.proofs.work_out.Goals as goal
 
--- from the loop's head: back to where every task had its own priority
-abbrev own : tie.At-loop invariant-loop decreases-loop → tie.After-start-from-own invariant-loop decreases-loop
-own head = head.before.before.before
-
 pub loop-n-init : goal.loop-n-init
 loop-n-init c = (record { length = c.start_from_own.ensures.length; kernel = passed_start _ }, omega arith)
 
@@ -26,7 +22,6 @@ loop-n-preserved c = (turn passed_so_far passed_on _ _ c.loop-n.invariant.0 c.pa
 
 pub returns : goal.returns
 returns c =
-    let start = (own c).before.before.before in
     let e : c.loop-n.n ≡ tasks = omega arith in
     onto c.loop-n.invariant.0
-    (ap (passed_so_far _) e ∙ ap (λ (k : Kernel). passed_so_far k tasks) (own c).start-from-own.ensures.kernel ∙ passed-done _ (place-length _ start.pre))
+    (ap (passed_so_far _) e ∙ ap (λ (k : Kernel). passed_so_far k tasks) c.start_from_own.ensures.kernel ∙ passed-done _ (place-length _ c.requires))

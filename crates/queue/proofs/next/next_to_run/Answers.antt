@@ -10,7 +10,7 @@ pub overflow_add-first : goal.overflow_add-first
 overflow_add-first c = omega (arith, trailing_le 32 c.bits.result)
 
 pub search-init : goal.search-init
-search-init c = let pre = (c.requires.state_len, c.requires.bitmap) in (refl, search-start _ pre.0 pre.1 _ c.bits.ensures)
+search-init c = (refl, search-start _ c.requires.state_len c.requires.bitmap _ c.bits.ensures)
 
 pub loop-i-init : goal.loop-i-init
 loop-i-init c = (c.search.invariant.0, look-start _ _ c.search-test.true c.search.invariant.1)

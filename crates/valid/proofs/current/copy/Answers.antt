@@ -6,11 +6,8 @@ use Rattle.valid.proofs.current.copy.Goals as goal
 pub loop-i-init : goal.loop-i-init
 loop-i-init c = search copy_start
 
-pub loop-i-smaller : goal.loop-i-smaller
-loop-i-smaller c = search copy_more
-
 pub loop-i-preserved : goal.loop-i-preserved
-loop-i-preserved c = search
+loop-i-preserved c = search copy_more
 
 pub returns : goal.returns
 returns c = search copy_done
