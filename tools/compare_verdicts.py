@@ -20,9 +20,7 @@ BATCH, EACH = 10_000, 20
 
 def build():
     subprocess.run(["cargo", "build", "--release", "--offline", "--quiet"], cwd=ROOT / "reference", check=True)
-    log = subprocess.run(["rt", "check", "verdicts"], cwd=ROOT, capture_output=True, text=True)
-    if log.returncode != 0:
-        sys.exit(f"rt check verdicts failed:\n{log.stdout[-2000:]}{log.stderr[-2000:]}")
+    subprocess.run([ROOT / "tools/build_programs", "verdicts"], check=True)
 
 
 def judged(frames):

@@ -96,22 +96,20 @@ def run(crate, on, program, inputs=lambda folder: [], proofs={}):
         folder = pathlib.Path(name)
         copy = folder / "repository"
         source = copy / "crates/timing/src"
-        for part in ["crates", "target"]:
-            if (ROOT / part).exists():
-                shutil.copytree(ROOT / part, copy / part)
+        shutil.copytree(ROOT / "crates", copy / "crates")
         source.mkdir(parents=True)
         (source / "lib.rt").write_text(crate)
         for function, proof in proofs.items():
             place = copy / "crates/timing/proofs" / function
             place.mkdir(parents=True)
             (place / "Proof.antt").write_text(proof)
-        (copy / "crates.txt").write_text((ROOT / "crates.txt").read_text() + f"timing: {on}\n")
-        log = subprocess.run(["rt", "staticlib", "timing"], cwd=copy, capture_output=True, text=True)
+        (copy / "crates.txt").write_text((ROOT / "crates.txt").read_text() + f"timing staticlib: {on}\n")
+        log = subprocess.run(["rt", "lib"], cwd=copy / "crates/timing", capture_output=True, text=True)
         if log.returncode != 0:
-            sys.exit(f"rt staticlib timing failed:\n{log.stdout[-2000:]}{log.stderr[-2000:]}")
+            sys.exit(f"rt lib of timing failed:\n{log.stdout[-2000:]}{log.stderr[-2000:]}")
         (folder / "time.rs").write_text(program)
         release = ROOT / "reference/target/release"
-        link = ["-L", copy / "target/staticlib", "-l", "static=timing", "--extern", f"reference={release}/libreference.rlib"]
+        link = ["-L", copy / "crates/timing/out", "-l", "static=timing", "--extern", f"reference={release}/libreference.rlib"]
         made = ["rustc", "--edition", "2021", "-C", "opt-level=3", folder / "time.rs", "-o", folder / "time", *link]
         subprocess.run(made, check=True)
         subprocess.run([folder / "time", *inputs(folder)], check=True)

@@ -1,4 +1,4 @@
--- The four kinds of row, as `Walk` and `Tables` take them: which objects exist, what a row holds, and that the board is what the walk comes to.
+-- The four kinds of row: which objects exist, what a row holds, and that the board is what the answer and the loop come to. Assumes nothing.
 use Prim.Native.Nat.{ℕ}
 use mathlib.Core.Path.{◌≡◌}
 use mathlib.Core.Bool.{Bool, true}
@@ -13,13 +13,15 @@ use Rattle.status.specs.declared.row.BufferRow.{BufferRow}
 use Rattle.status.specs.declared.row.PoolRow.{PoolRow}
 use Rattle.status.specs.Rows.{is_there, task_row, mutex_row, buffer_row, pool_row}
 use Rattle.status.proofs.Sound.{asked-words}
-use Rattle.status.specs.contracts.row.TaskRow as T
-use Rattle.status.specs.contracts.row.MutexRow as M
-use Rattle.status.specs.contracts.row.BufferRow as B
-use Rattle.status.specs.contracts.row.PoolRow as P
 use Rattle.board.specs.Boards.{task_board, mutex_board, buffer_board, pool_board}
+use Rattle.board.specs.Table.{Board, board, written, board_code, rows_seen}
 use Rattle.board.proofs.Rule.{by_parts}
-use Rattle.board.proofs.Walk.{Parts}
+
+-- what a board call of one kind of row comes to, by the answer and by the rows that the loop writes
+abbrev pub Parts : {R : Type 0} → ℕ → (List ℕ → ℕ → Bool) → (List ℕ → List ℕ → List ℕ → ℕ → R) → (List ℕ → List ℕ → List ℕ → List R → Board R) → Type 0
+Parts {R} objects exists row_of made =
+    (w s o : List ℕ) (ys : List R)
+    → board (board_code (is_valid w s o) objects (length ys)) (written (exists w) (row_of w s o) 1 (rows_seen (board_code (is_valid w s o) objects (length ys)) objects) ys) ≡ made w s o ys
 
 abbrev pub task-exists : List ℕ → ℕ → Bool
 task-exists w = is_there (kernel w).tasks.place
@@ -27,7 +29,7 @@ task-exists w = is_there (kernel w).tasks.place
 abbrev pub task-row : List ℕ → List ℕ → List ℕ → ℕ → TaskRow
 task-row w s o = task_row (kernel w)
 
-pub task-parts : Parts T.the_type tasks task-exists task-row task_board
+pub task-parts : Parts tasks task-exists task-row task_board
 unfolding task_board
 task-parts w s o ys = by_parts (task-exists w) (task-row w s o) (is_valid w s o) tasks ys
 
@@ -37,7 +39,7 @@ mutex-exists w = is_there (kernel w).mutexes.exists
 abbrev pub mutex-row : List ℕ → List ℕ → List ℕ → ℕ → MutexRow
 mutex-row w s o = mutex_row (kernel w)
 
-pub mutex-parts : Parts M.the_type mutexes mutex-exists mutex-row mutex_board
+pub mutex-parts : Parts mutexes mutex-exists mutex-row mutex_board
 unfolding mutex_board
 mutex-parts w s o ys = by_parts (mutex-exists w) (mutex-row w s o) (is_valid w s o) mutexes ys
 
@@ -47,7 +49,7 @@ buffer-exists w = is_there (kernel w).buffers.exists
 abbrev pub buffer-row : List ℕ → List ℕ → List ℕ → ℕ → BufferRow
 buffer-row w s o = buffer_row (lent w s o)
 
-pub buffer-parts : Parts B.the_type buffers buffer-exists buffer-row buffer_board
+pub buffer-parts : Parts buffers buffer-exists buffer-row buffer_board
 unfolding buffer_board
 buffer-parts w s o ys = by_parts (buffer-exists w) (buffer-row w s o) (is_valid w s o) buffers ys
 
@@ -57,7 +59,7 @@ pool-exists w = is_there (kernel w).pools.exists
 abbrev pub pool-row : List ℕ → List ℕ → List ℕ → ℕ → PoolRow
 pool-row w s o = pool_row (kernel w)
 
-pub pool-parts : Parts P.the_type pools pool-exists pool-row pool_board
+pub pool-parts : Parts pools pool-exists pool-row pool_board
 unfolding pool_board
 pool-parts w s o ys = by_parts (pool-exists w) (pool-row w s o) (is_valid w s o) pools ys
 

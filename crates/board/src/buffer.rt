@@ -12,13 +12,7 @@ use status::row::BufferRow;
 pub const ROWS: usize = BUFFERS as usize;
 
 // The manual's tk_ref_mbf, of all buffers at once.
-#[unsafe(no_mangle)]
-pub extern "C" fn shinepod_ref_mbf(
-    state: &[u32],
-    store: &[u8],
-    outbox: &[u8],
-    rows: &mut [BufferRow],
-) -> i32
+pub fn shinepod_ref_mbf(state: &[u32], store: &[u8], outbox: &[u8], rows: &mut [BufferRow]) -> i32
     ensures { board result rows.new ≡ buffer_board state.now store.now outbox.now rows.old }
 {
     let code = board_code(state, store, outbox, rows.len(), ROWS);

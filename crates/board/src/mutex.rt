@@ -12,13 +12,7 @@ use status::row::MutexRow;
 pub const ROWS: usize = MUTEXES as usize;
 
 // The manual's tk_ref_mtx, of all mutexes at once.
-#[unsafe(no_mangle)]
-pub extern "C" fn shinepod_ref_mtx(
-    state: &[u32],
-    store: &[u8],
-    outbox: &[u8],
-    rows: &mut [MutexRow],
-) -> i32
+pub fn shinepod_ref_mtx(state: &[u32], store: &[u8], outbox: &[u8], rows: &mut [MutexRow]) -> i32
     ensures { board result rows.new ≡ mutex_board state.now store.now outbox.now rows.old }
 {
     let code = board_code(state, store, outbox, rows.len(), ROWS);

@@ -12,13 +12,7 @@ use status::row::PoolRow;
 pub const ROWS: usize = POOLS as usize;
 
 // The manual's tk_ref_mpf, of all pools at once.
-#[unsafe(no_mangle)]
-pub extern "C" fn shinepod_ref_mpf(
-    state: &[u32],
-    store: &[u8],
-    outbox: &[u8],
-    rows: &mut [PoolRow],
-) -> i32
+pub fn shinepod_ref_mpf(state: &[u32], store: &[u8], outbox: &[u8], rows: &mut [PoolRow]) -> i32
     ensures { board result rows.new ≡ pool_board state.now store.now outbox.now rows.old }
 {
     let code = board_code(state, store, outbox, rows.len(), ROWS);

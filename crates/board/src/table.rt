@@ -1,4 +1,4 @@
-// The tables by value, for whoever has no slice of rows to lend: callers of these need no proof by hand. A table of blank rows is lent. Of a valid state a
+// The tables by value, for whoever has no slice of rows to lend. A table of blank rows is lent. Of a valid state a
 // row that is blank afterwards is of no object; of any other all are blank.
 ghost use Rattle.std.specs.Prelude.{◌≡◌, replicate};
 ghost use Rattle.model.specs.Sizes.{tasks, mutexes, buffers, pools};

@@ -12,13 +12,7 @@ use status::task::{is_there, row};
 pub const ROWS: usize = TASKS as usize;
 
 // The manual's tk_ref_tsk, of all tasks at once.
-#[unsafe(no_mangle)]
-pub extern "C" fn shinepod_ref_tsk(
-    state: &[u32],
-    store: &[u8],
-    outbox: &[u8],
-    rows: &mut [TaskRow],
-) -> i32
+pub fn shinepod_ref_tsk(state: &[u32], store: &[u8], outbox: &[u8], rows: &mut [TaskRow]) -> i32
     ensures { board result rows.new ≡ task_board state.now store.now outbox.now rows.old }
 {
     let code = board_code(state, store, outbox, rows.len(), ROWS);

@@ -12,8 +12,6 @@ use lib.IntN.{ℤ}
 use lib.Signed.{mag}
 use mir.Syntax.{w32}
 use mir.Val.{to_z, of_z}
-use denote.Enum.Declared.{tag_of}
-use types.Run.{OneOf, miss}
 use borrow.Author.Tests.{eq-eqb, ne_eqb}
 use Rattle.model.specs.declared.call.Call.{Call}
 use Rattle.model.specs.declared.call.Call.TheVariants.{CreTsk, DelTsk, StaTsk, ExtTsk, TerTsk, ChgPri, CreMtx, DelMtx, LocMtx, UnlMtx, CreMbf, DelMbf, SndMbf, RcvMbf, CreMpf, DelMpf, GetMpf, RelMpf, Tick}
@@ -21,7 +19,7 @@ use Rattle.model.specs.declared.number.TaskNumber.{TaskNumber}
 use Rattle.model.specs.declared.number.MaybeTask.{MaybeTask}
 use Rattle.model.specs.declared.number.MaybeTask.TheVariants.{Task, Nothing as NoTask}
 use Rattle.model.specs.Sizes.{buffers, message_bytes, region_bytes, longest}
-use Rattle.model.specs.Lists.{◌!◌, count_from, zeros, joined}
+use Rattle.model.specs.Lists.{◌!◌, zeros, joined}
 use Rattle.model.specs.Code.{E_CTX, number}
 use Rattle.model.specs.Number.{maybe_task}
 use Rattle.model.specs.Kernel.{Kernel}
@@ -33,7 +31,6 @@ use Rattle.model.specs.Effect.{Done, perform}
 use Rattle.model.specs.Valid.{From, Layout, BufferRange, Valid}
 use Rattle.model.specs.Words.{kernel}
 use Rattle.model.specs.Lent.{Areas, lent}
-use Rattle.model.specs.contracts.call.Call.{the_type}
 use Rattle.model.proofs.NumberLaws.{task-is, task-is-none}
 use Rattle.model.proofs.ByCase.{refusal-not}
 use Rattle.model.proofs.RefusalLaws.{none-applies, in-range}
@@ -98,12 +95,12 @@ tick-or-made k (GetMpf x y) bytes = inr (record { not-tick = refl; first = refl 
 tick-or-made k (RelMpf x y) bytes = inr (record { not-tick = refl; first = refl })
 tick-or-made k Tick bytes = inl refl
 
--- a tick is the last variant, so it has the last tag; what runs does not matter
-pub not-a-tick : (c : Call) → OneOf (count_from 0 18) (tag_of the_type c) → false ≡ is_tick c
+-- what runs does not matter
+pub not-a-tick : (c : Call) → (c ≡ Tick → ⊥) → false ≡ is_tick c
 not-a-tick c h = go (tick-or-made (kernel []) c [])
   where
     go : (c ≡ Tick) ⊎ Made (kernel []) c [] → false ≡ is_tick c
-    go (inl e) = absurd (miss (count_from 0 18) 18 tt (subst (λ (d : Call). OneOf (count_from 0 18) (tag_of the_type d)) e h))
+    go (inl e) = absurd (h e)
     go (inr m) = sym m.not-tick
 
 -- ---- a call that a task makes

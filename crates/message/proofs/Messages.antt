@@ -1,14 +1,12 @@
 -- One packed message at the front of a list: what is read of it, and what lies behind it. Assumes nothing.
-use Prim.Native.Nat.{ℕ, ◌+◌, ◌*◌, ◌-◌, ◌/◌, ◌%◌, ◌<◌, ◌^◌, min}
-use native.Mathlib.Nat.{div-div-eq-div-mul, div-add-mod'}
+use Prim.Native.Nat.{ℕ, ◌+◌, ◌-◌, ◌<◌, ◌^◌, min}
 use native.Mathlib.Omega.{arith}
 use mathlib.Core.List.{List, ◌++◌, append_assoc}
-use mathlib.Core.Path.{◌≡◌, ◌∙◌, sym, ap}
+use mathlib.Core.Path.{◌≡◌, ◌∙◌, ap}
 use lib.ListN.{length, take, drop, length-append, length-replicate}
 use lib.Seq.{take-append_seam, drop_at}
 use Rattle.model.proofs.NumberLaws.{number4-bytes4}
 use Rattle.model.specs.Lists.{zeros}
-use Rattle.model.specs.Code.{number4}
 use Rattle.model.specs.Message.{rounded_up, cost, packed, oldest_length, oldest, removed}
 
 pub length-packed : (m : List ℕ) → length (packed m) ≡ cost (length m)

@@ -1,5 +1,5 @@
 -- The acts that effects are made of, each said once for all kinds of object.
-use Rattle.std.specs.Prelude.{ℕ, zero, suc, ◌+◌, ◌-◌, Bool, true, false, ◌&&◌, not, cond, length, ℤ, pos, negsuc, eqb}
+use Rattle.std.specs.Prelude.{ℕ, zero, suc, ◌+◌, Bool, true, false, ◌&&◌, not, cond, length, ℤ, pos, negsuc, eqb}
 use mathlib.Core.List.{List, [], foldl}
 use Rattle.std.specs.Int.Signed.{non_neg}
 use Rattle.model.specs.Sizes.{tasks, mutexes, buffers, endless}

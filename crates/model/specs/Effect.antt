@@ -1,5 +1,5 @@
 -- 01, "Effects": what each call does once no refusal applies.
-use Rattle.std.specs.Prelude.{ℕ, ◌+◌, ◌-◌, pred, Bool, ◌&&◌, ◌||◌, not, cond, length, take, ℤ, pos, eqb}
+use Rattle.std.specs.Prelude.{ℕ, ◌-◌, pred, Bool, ◌&&◌, ◌||◌, not, cond, length, take, ℤ, pos, eqb}
 use mathlib.Core.List.{List, ◌++◌, foldl}
 use Rattle.model.specs.declared.call.Call.{Call}
 use Rattle.model.specs.declared.call.Call.TheVariants.{CreTsk, DelTsk, StaTsk, ExtTsk, TerTsk, ChgPri, CreMtx, DelMtx, LocMtx, UnlMtx, CreMbf, DelMbf, SndMbf, RcvMbf, CreMpf, DelMpf, GetMpf, RelMpf, Tick}

@@ -19,7 +19,6 @@ use Rattle.model.specs.Act.{arrive}
 use Rattle.model.specs.Words.{word_count, kernel}
 use Rattle.state.specs.Words.{with_arrival, Represents}
 use Rattle.state.proofs.WordLaws.{arrivals-long}
-use Rattle.model.specs.Field as field
 use Rattle.queue.specs.Arriving.{Kept, Gathered, cleared_from, other, kept_arrivals, kept_count}
 use Rattle.queue.proofs.Gather.{gathered, count, gathered-start, count-start, gathered-step, gathered-all, count-step, count-all, count-le, set-seam, cleared, departed-is, arrived-is}
 

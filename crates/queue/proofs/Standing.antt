@@ -15,7 +15,6 @@ use Rattle.model.specs.Queue.{by_priority}
 use Rattle.model.specs.Kernel.{Kernel, numbered, stands_in}
 use Rattle.model.specs.Number.{word_number}
 use Rattle.model.proofs.NumberLaws.{Names, NamesNone, Kind, named, unnamed, numbered-at, numbered-none}
-use Rattle.model.specs.Field as field
 use Rattle.queue.specs.Better.{better}
 
 -- ---- entries

@@ -1,5 +1,5 @@
 -- The step on lent words is the step on the kernel that they hold, where the words are a state's. Assumes nothing.
-use mathlib.Core.Path.{◌≡◌, ◌∙◌, refl, sym}
+use mathlib.Core.Path.{◌≡◌, ◌∙◌, refl}
 use mathlib.Core.Bool.{Bool, true, false}
 use mathlib.Core.List.{List}
 use lib.ListN.{length}
@@ -12,7 +12,7 @@ use Rattle.model.specs.Valid.{valid}
 use Rattle.model.specs.Step.{refused, step}
 use Rattle.model.specs.Log.{delivery_bytes, outcome_log}
 use Rattle.model.specs.Words.{word_count}
-use Rattle.model.specs.Lent.{Areas, lent, is_valid, not_valid, returned, lent_step, with_log}
+use Rattle.model.specs.Lent.{Areas, lent, is_valid, not_valid, returned, lent_step}
 use Rattle.model.proofs.ByCase.{lent-valid, lent-not-valid, step-valid, step-not-valid}
 use Rattle.state.proofs.WordLaws.{words-kernel}
 

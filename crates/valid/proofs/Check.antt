@@ -7,7 +7,7 @@ use mathlib.Core.List.{List, [], ◌∷◌}
 use lib.ListN.{length, get_or}
 use lib.Dec.{eqb}
 use borrow.Author.Tests.{eqb-true, eq-eqb, le-leb, lt-leb, not-true, not-false}
-use Rattle.model.specs.Sizes.{tasks, mutexes, buffers, pools, blocks, store_bytes, outbox_bytes}
+use Rattle.model.specs.Sizes.{tasks, mutexes, pools, blocks, store_bytes, outbox_bytes}
 use Rattle.model.specs.Lists.{◌!◌, all, count_from, up_to, within}
 use Rattle.model.specs.Kernel.{Kernel, slot}
 use Rattle.model.specs.World.{Lent}

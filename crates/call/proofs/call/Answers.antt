@@ -1,9 +1,6 @@
 -- `call` meets its contract: the log is too short or too long, the state is not valid, or the step is done. Assumes nothing.
-use borrow.Author.Tests.{not-true, not-false}
 use Rattle.act.specs.Held.{areas}
 use Rattle.call.proofs.Calling.{calls-untouched, calls-not-valid, calls-bits, calls-ready, calls-steps}
-use mathlib.Core.Bool.{not}
-use mathlib.Core.Path.{ap}
 use Rattle.call.proofs.call.Goals as goal
 
 pub returns-then-log-ne-LOG_BYTES : goal.returns-then-log-ne-LOG_BYTES
@@ -12,22 +9,23 @@ returns-then-log-ne-LOG_BYTES c = calls-untouched _ _ _ c.if-log-ne-LOG_BYTES.tr
 pub returns-then-not-is_valid : goal.returns-then-not-is_valid
 returns-then-not-is_valid c =
     calls-not-valid _ _ _ c.if-log-ne-LOG_BYTES.false
-    c.is_valid.ensures (not-true _ (ap not c.if-not-is_valid.true))
+    c.is_valid.ensures c.if-not-is_valid.true
     c.not_valid.ensures
 
 pub next_to_run-runs-requires : goal.next_to_run-runs-requires
 next_to_run-runs-requires c =
     let g = c.args in
-    calls-bits (areas g.state.now g.store.now g.outbox.now g.log.now) g.call g.message.now
-    c.if-log-ne-LOG_BYTES.false c.is_valid.ensures (not-false _ (ap not c.if-not-is_valid.false))
+    let r = calls-bits (areas g.state.now g.store.now g.outbox.now g.log.now) g.call g.message.now
+    c.if-log-ne-LOG_BYTES.false c.is_valid.ensures c.if-not-is_valid.false in
+    record { state_len = r.0; bitmap = r.1 }
 
 pub valid_step-step-requires : goal.valid_step-step-requires
 valid_step-step-requires c =
     let g = c.args in
     calls-ready (areas g.state.now g.store.now g.outbox.now g.log.now) g.call g.message.now c.if-log-ne-LOG_BYTES.false
-    c.is_valid.ensures (not-false _ (ap not c.if-not-is_valid.false)) c.next_to_run-runs.ensures
+    c.is_valid.ensures c.if-not-is_valid.false c.next_to_run-runs.ensures
 
 pub returns : goal.returns
 returns c =
-    calls-steps _ _ _ c.if-log-ne-LOG_BYTES.false c.is_valid.ensures (not-false _ (ap not c.if-not-is_valid.false))
+    calls-steps _ _ _ c.if-log-ne-LOG_BYTES.false c.is_valid.ensures c.if-not-is_valid.false
     c.valid_step-step.ensures

@@ -1,10 +1,8 @@
 -- `start_from_bases` meets its contract. The loop's invariant: the tasks passed have their base priorities. Assumes nothing.
 use mathlib.Core.Path.{◌≡◌, ◌∙◌, ap}
-use Prim.Native.Nat.{◌-◌}
 use native.Mathlib.Omega.{arith}
 use Rattle.model.specs.Sizes.{tasks}
 use Rattle.model.specs.Kernel.{Kernel, with_current}
-use Rattle.model.specs.Words.{kernel}
 use Rattle.priority.specs.Own.{base_of}
 use Rattle.priority.proofs.WordLaws.{onto, turn}
 use Rattle.priority.proofs.StartLaws.{bases_so_far, bases-start, bases-step, bases-all}

@@ -1,9 +1,7 @@
 -- `start_from_own` meets its contract. The loop's invariant: the holders of the mutexes passed have their own priorities, the other tasks their base priorities. Assumes nothing.
 use mathlib.Core.Path.{◌≡◌, ◌∙◌, ap}
-use Prim.Native.Nat.{◌-◌}
 use native.Mathlib.Omega.{arith}
 use Rattle.model.specs.Sizes.{mutexes}
-use Rattle.model.specs.Words.{kernel}
 use Rattle.priority.specs.Afresh.{at_own, holder_at_own}
 use Rattle.priority.proofs.WordLaws.{onto, turn}
 use Rattle.priority.proofs.StartLaws.{holders_so_far, holders-start, holders-step, holders-all, own-again}

@@ -1,10 +1,8 @@
 -- `work_out` meets its contract. The loop's invariant: the tasks passed have passed their current priorities on. Assumes nothing.
 use mathlib.Core.Path.{◌≡◌, ◌∙◌, ap}
-use Prim.Native.Nat.{◌-◌}
 use native.Mathlib.Omega.{arith}
 use Rattle.model.specs.Sizes.{tasks}
 use Rattle.model.specs.Kernel.{Kernel}
-use Rattle.model.specs.Words.{kernel}
 use Rattle.priority.specs.Afresh.{passed_on}
 use Rattle.priority.proofs.WordLaws.{onto, turn}
 use Rattle.priority.proofs.WalkLaws.{place-length}

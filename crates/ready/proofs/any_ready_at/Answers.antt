@@ -1,6 +1,4 @@
 -- `any_ready_at` meets its contract. The loop's invariant: the tasks from n on decide. Assumes nothing.
-use Prim.Native.Nat.{◌-◌}
-use Rattle.model.specs.Queue.{ready_at}
 use Rattle.ready.proofs.ReadyLaws.{ready-all, ready-hit, ready-more, ready-end}
 use Rattle.ready.proofs.any_ready_at.Goals as goal
 

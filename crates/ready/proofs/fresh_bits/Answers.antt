@@ -1,5 +1,4 @@
 -- `fresh_bits` meets its contract. The loop's invariant: the tasks from n on have still to add their bits. Assumes nothing.
-use Prim.Native.Nat.{◌-◌}
 use Rattle.ready.proofs.ReadyLaws.{adding-start, adding-more, adding-done}
 use Rattle.ready.proofs.fresh_bits.Goals as goal
 

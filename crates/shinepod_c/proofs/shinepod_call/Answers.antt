@@ -16,4 +16,4 @@ pub returns : goal.returns
 returns c =
     tells-call _ c.args.kind _ _ (known-row _ _ (sym c.body_length.ensures ∙ c.in-Bytes.is))
     (c.call_of-call.ensures ∙ ap (call_in kinds c.args.kind) (same c.ranges.first c.ranges.second c.ranges.third))
-    c.call-called.ensures c.outcome_of.ensures (to_z-of_z (search rules) ∙ c.code_of_lem.ensures)
+    c.call-called.ensures c.outcome_of.ensures (to_z-of_z (search rules) ∙ c.code_of.ensures)

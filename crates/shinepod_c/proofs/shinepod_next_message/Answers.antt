@@ -7,5 +7,5 @@ pub returns : goal.returns
 returns c =
     tells-shown _ _ _ _
     (rw (to_z-of_z c.ranges.buffer) at c.location-l.ensures)
-    c.area_of.ensures c.start_of_lem.ensures
+    c.area_of.ensures c.start_of.ensures
     c.message_at-m.ensures

@@ -1,21 +1,10 @@
 -- `tick_all` meets its contract: what is left are the tasks from the next one on. Assumes nothing.
-use Prim.Native.Nat.{◌-◌}
 use native.Mathlib.Omega.{arith}
-use mathlib.Core.Path.{◌∙◌, sym}
 use borrow.Author.Rules.{rules}
 use Rattle.model.specs.Sizes.{tasks}
 use Rattle.time.proofs.Ticking.{ticking}
 use Rattle.act.proofs.Loop.{counted, counted-all, in-log-more, in-log-none}
 use Rattle.time.proofs.tick_all.Goals as goal
-
--- GONE same_length : tie.Need-same-length invariant-loop decreases-loop
--- same_length c = c.before.loop.invariant.0.words ∙ sym c.before.before.before.before.before.requires
-
--- GONE same-length-2 : tie.Need-same-length-2 invariant-loop decreases-loop
--- same-length-2 c = c.before.loop.invariant.0.outbox-size
-
--- GONE same-length-3 : tie.Need-same-length-3 invariant-loop decreases-loop
--- same-length-3 c = c.before.loop.invariant.0.log-size
 
 pub loop-n-init : goal.loop-n-init
 loop-n-init c = (ticking c.requires, omega arith)
@@ -28,7 +17,7 @@ loop-n-preserved c =
     let i = c.loop-n.invariant in
     let k = c.tick_numbered-next.auto in (
       in-log-more _ (counted tasks c.loop-n.n (search rules)) i.0
-          k.0 k.1.0 k.1.1.0 c.tick_numbered-next.ensures,
+          k.state k.outbox k.log c.tick_numbered-next.ensures,
       search rules,
     )
 

@@ -9,8 +9,7 @@ returns-then-a-eq-CEILINGED c =
 
 pub returns-else-a-eq-CEILINGED : goal.returns-else-a-eq-CEILINGED
 returns-else-a-eq-CEILINGED c =
-    let h = (c.requires.state_len, (c.requires.priorities, (c.requires.bitmap, c.requires.arrivals))) in
-    releases-quiet c.word.ensures c.front-first.ensures h.0 h.1.0 h.1.1.0 h.1.1.1 c.in_default.is c.attribute-a.ensures
+    releases-quiet c.word.ensures c.front-first.ensures c.requires.state_len c.requires.priorities c.requires.bitmap c.requires.arrivals c.in_default.is c.attribute-a.ensures
     c.if-a-eq-CEILINGED.false c.set_holder.ensures
 
 pub returns : goal.returns

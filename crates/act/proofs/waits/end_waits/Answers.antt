@@ -10,15 +10,6 @@ use Rattle.act.proofs.EndingAll.{ending}
 use Rattle.act.proofs.Loop.{dropped, in-log-more, in-log-none}
 use Rattle.act.proofs.waits.end_waits.Goals as goal
 
--- GONE same_length : tie.Need-same-length invariant-loop decreases-loop
--- same_length c = c.before.loop.invariant.0.words ∙ sym c.before.before.before.before.before.before.requires.0
-
--- GONE same-length-2 : tie.Need-same-length-2 invariant-loop decreases-loop
--- same-length-2 c = c.before.loop.invariant.0.outbox-size
-
--- GONE same-length-3 : tie.Need-same-length-3 invariant-loop decreases-loop
--- same-length-3 c = c.before.loop.invariant.0.log-size
-
 pub loop-i-init : goal.loop-i-init
 loop-i-init c = (ending _ _ c.requires.state_len, omega arith, refl)
 
@@ -35,7 +26,7 @@ loop-i-preserved c =
     let i = c.loop-i.invariant in
     let k = c.end_numbered-next.auto in (
       in-log-more _ (dropped _ c.loop-i.i
-          c.loop-i-test.true) i.0 k.0 k.1.0 k.1.1.0
+          c.loop-i-test.true) i.0 k.state k.outbox k.log
           c.end_numbered-next.ensures,
       search rules,
       refl,

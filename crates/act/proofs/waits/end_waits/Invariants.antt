@@ -2,15 +2,13 @@
 use Prim.Native.Nat.{◌-◌, ◌≤◌}
 use mathlib.Core.Path.{◌≡◌}
 use lib.ListN.{length, drop}
-use mir.Val.{to_z}
-use mir.Syntax.{w32}
 use Rattle.model.specs.Act.{end_wait, end_waits}
 use Rattle.model.specs.World.{Nothing}
 use Rattle.act.proofs.Loop.{LeftInLog, over}
 use Rattle.act.proofs.waits.end_waits.Given as goal
 
 abbrev pub invariant-loop-i : goal.invariant-loop-i
-invariant-loop-i l = LeftInLog (λ w. end_waits w l.order (to_z w32 l.code)) (over (λ t w. end_wait w t (to_z w32 l.code) Nothing)
+invariant-loop-i l = LeftInLog (λ w. end_waits w l.order l.code) (over (λ t w. end_wait w t l.code Nothing)
     (drop l.i l.order)) l.initial.state l.initial.outbox l.initial.log l.initial.next l.state l.outbox l.log l.next
     × (l.i ≤ length l.order) × (l.i-end ≡ length l.order)
 

@@ -1,5 +1,4 @@
 -- `all_zero` meets its contract. The loop's invariant: the bytes looked at and those that are left decide. Assumes nothing.
-use Prim.Native.Nat.{◌-◌}
 use Rattle.areas.proofs.ByteLaws.{zero-all, zero_more, zero-done}
 use Rattle.areas.proofs.bytes.all_zero.Goals as goal
 

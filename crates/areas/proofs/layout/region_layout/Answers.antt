@@ -1,5 +1,4 @@
 -- `region_layout` meets its contract. The loop's invariant: the messages that are left decide. Assumes nothing.
-use Prim.Native.Nat.{◌-◌}
 use borrow.Author.Rules.{rules}
 use Rattle.areas.proofs.Messages.{more-less, more-fits, rest-start, rest-stop, rest-fits, rest_at, rest_more, rest-done}
 use Rattle.areas.proofs.layout.region_layout.Goals as goal

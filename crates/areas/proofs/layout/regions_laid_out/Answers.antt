@@ -1,5 +1,4 @@
 -- `regions_laid_out` meets its contract. The loop's invariant: the buffers still to be asked decide. Assumes nothing.
-use Prim.Native.Nat.{◌-◌}
 use Rattle.model.proofs.Loops.{asks}
 use Rattle.areas.proofs.layout.regions_laid_out.Goals as goal
 

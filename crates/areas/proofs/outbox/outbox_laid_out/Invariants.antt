@@ -3,7 +3,7 @@ use Prim.Native.Nat.{suc, ◌-◌}
 use Rattle.model.specs.Sizes.{tasks}
 use Rattle.model.specs.Valid.{outbox_part}
 use Rattle.model.proofs.NumberLaws.{task_kind}
-use Rattle.model.proofs.Loops.{AskedAll, asks}
+use Rattle.model.proofs.Loops.{AskedAll}
 use Rattle.model.specs.Words.{kernel}
 use Rattle.areas.proofs.outbox.outbox_laid_out.Given as goal
 

@@ -1,39 +1,50 @@
--- `shinepod_ref_tsk` meets its contract: the walk of `Walk`, at the rows of tasks.
-use contract.Running.{tables, tables_of}
-use denote.Triple.Spec.{triple_of}
-use denote.Triple.Table.{entered, cited}
+-- `shinepod_ref_tsk` meets its contract: a row that is looked at is an object's, and each turn writes it or leaves it. Assumes nothing.
+use native.Mathlib.Omega.{arith}
+use mathlib.Core.Path.{◌∙◌, sym}
+use lib.ListN.{length}
+use mir.Syntax.{w32}
+use mir.Facts.{to_z-of_z}
+use borrow.Author.Rules.{rules}
 use Rattle.model.specs.Sizes.{tasks}
-use Rattle.status.specs.contracts.row.TaskRow as T
-use Rattle.status.proofs.row.TaskRow.TheLaws as T'
-use Rattle.status.specs.contracts.task.is_there as is-there
-use Rattle.status.proofs.task.is_there.Symbol as is-there-def
-use Rattle.status.proofs.task.is_there.Met as is-there-thm
-use Rattle.status.specs.contracts.task.row as row
-use Rattle.status.proofs.task.row.Symbol as row_def
-use Rattle.status.proofs.task.row.Met as row-thm
-use Rattle.board.specs.Boards.{task_board}
-use Rattle.board.proofs.Walk.{board-meets}
+use Rattle.model.specs.Lent.{is_valid}
+use Rattle.board.proofs.Rule.{looked-at, turn-writes, turn-leaves, all-turns}
 use Rattle.board.proofs.RowKinds.{task-exists, task-row, task-parts, valid-long}
-use Rattle.board.specs.contracts.refusal.board_code as board-code
-use Rattle.board.proofs.refusal.board_code.Symbol as board-code-def
-use Rattle.board.proofs.refusal.board_code.Met as board-code-thm
-use Rattle.board.specs.contracts.refusal.rows_seen as rows_seen
-use Rattle.board.proofs.refusal.rows_seen.Symbol as rows-seen-def
-use Rattle.board.proofs.refusal.rows_seen.Met as rows-seen-thm
-use Rattle.board.specs.contracts.task.shinepod_ref_tsk as ref-tsk
-use Rattle.board.specs.contracts.task.shinepod_ref_tsk.Key.{name as #ref-tsk}
-use Rattle.board.proofs.task.shinepod_ref_tsk.Statement as stated
-use Rattle.board.proofs.task.shinepod_ref_tsk.Code as code
+use Rattle.board.proofs.task.shinepod_ref_tsk.Goals.{then-is_there, else-is_there}
 use Rattle.board.proofs.task.shinepod_ref_tsk.Goals as goal
 
-pub shinepod-ref-tsk-spec : {M : Type 1} → stated.statement M
-unfolding code.routine tables_of
-shinepod-ref-tsk-spec 𝓤 𝓛 𝓜 𝓡 =
-    entered 𝓤 𝓛.H (triple_of 𝓛 ref-tsk.signature (ref-tsk.spec 𝓛 𝓜.mem 𝓡.run))
-    (tables 𝓤 𝓛.H 𝓜 𝓡 code.env).C (tables 𝓤 𝓛.H 𝓜 𝓡 code.env).Λ #ref-tsk code.function (code.unfolded 𝓤 𝓛.H 𝓜 𝓡)
-    (board-meets T.the_type tasks task-exists task-row task_board 𝓛 𝓜.mem 𝓡.run task-parts T'.the_laws (tables_of 𝓤 𝓛.H 𝓜 (tables 𝓤 𝓛.H 𝓜 𝓡 code.env))
-    board-code-def.name rows-seen-def.name is-there-def.name row_def.name tt tt valid-long
-    (cited 𝓤 𝓛.H (triple_of 𝓛 board-code.signature (board-code.spec 𝓛 𝓜.mem 𝓡.run)) 𝓜 𝓡 code.env board-code-def.name board-code-def.routine code.calls-board::refusal::board-code (board-code-thm.met 𝓤 𝓛 𝓜 𝓡))
-    (cited 𝓤 𝓛.H (triple_of 𝓛 rows_seen.signature (rows_seen.spec 𝓛 𝓜.mem 𝓡.run)) 𝓜 𝓡 code.env rows-seen-def.name rows-seen-def.routine code.calls-board::refusal::rows-seen (rows-seen-thm.met 𝓤 𝓛 𝓜 𝓡))
-    (cited 𝓤 𝓛.H (triple_of 𝓛 is-there.signature (is-there.spec 𝓛 𝓜.mem 𝓡.run)) 𝓜 𝓡 code.env is-there-def.name is-there-def.routine code.calls-status::task::is-there (is-there-thm.met 𝓤 𝓛 𝓜 𝓡))
-    (cited 𝓤 𝓛.H (triple_of 𝓛 row.signature (row.spec 𝓛 𝓜.mem 𝓡.run)) 𝓜 𝓡 code.env row_def.name row_def.routine code.calls-status::task::row (row-thm.met 𝓤 𝓛 𝓜 𝓡)))
+pub is_there-requires : goal.is_there-requires
+is_there-requires c =
+    let looked = looked-at (is_valid c.args.state.now c.args.store.now c.args.outbox.now) tasks (length c.args.rows.now) c.board_code-code.ensures (to_z-of_z {w = w32} (search rules)) c.rows_seen-end.ensures c.loop-i-test.true in
+    (valid-long _ _ _ looked.0, looked.1)
+
+pub row-requires : goal.row-requires
+row-requires c =
+    let looked = looked-at (is_valid c.args.state.now c.args.store.now c.args.outbox.now) tasks (length c.args.rows.now) c.board_code-code.ensures (to_z-of_z {w = w32} (search rules)) c.rows_seen-end.ensures c.loop-i-test.true in
+    (looked.0, looked.1, sym c.is_there.ensures ∙ c.if-is_there.true)
+
+pub offset_bounds-rows-i : goal.offset_bounds-rows-i
+offset_bounds-rows-i c =
+    let looked = looked-at (is_valid c.args.state.now c.args.store.now c.args.outbox.now) tasks (length c.args.rows.now) c.board_code-code.ensures (to_z-of_z {w = w32} (search rules)) c.rows_seen-end.ensures c.loop-i-test.true in
+    omega (arith, looked.1)
+
+pub bounds-rows-i : goal.bounds-rows-i
+bounds-rows-i c =
+    let looked = looked-at (is_valid c.args.state.now c.args.store.now c.args.outbox.now) tasks (length c.args.rows.now) c.board_code-code.ensures (to_z-of_z {w = w32} (search rules)) c.rows_seen-end.ensures c.loop-i-test.true in
+    omega (arith, looked.1, looked.2, c.loop-i.auto.rows)
+
+pub loop-i-preserved : goal.loop-i-preserved
+loop-i-preserved c =
+    let looked = looked-at (is_valid c.args.state.now c.args.store.now c.args.outbox.now) tasks (length c.args.rows.now) c.board_code-code.ensures (to_z-of_z {w = w32} (search rules)) c.rows_seen-end.ensures c.loop-i-test.true in
+    elim c.if-is_there.branch [
+      | then-is_there w ↦ record {
+        rows = turn-writes (task-exists c.args.state.now) (task-row c.args.state.now c.args.store.now c.args.outbox.now) c.args.rows.now c.loop-i.invariant.rows (omega (arith, looked.1, looked.2)) c.is_there.ensures w.if-is_there.true w.row.ensures w.rows-is;
+        inside = omega arith;
+      }
+      | else-is_there w ↦ record { rows = turn-leaves (task-exists c.args.state.now) (task-row c.args.state.now c.args.store.now c.args.outbox.now) c.args.rows.now c.loop-i.invariant.rows c.is_there.ensures w.if-is_there.false w.rows-is; inside = omega arith }
+    ]
+
+pub returns : goal.returns
+returns c =
+    all-turns (task-exists c.args.state.now) (task-row c.args.state.now c.args.store.now c.args.outbox.now) c.args.rows.now c.loop-i.invariant.rows (is_valid c.args.state.now c.args.store.now c.args.outbox.now) tasks c.board_code-code.ensures (to_z-of_z {w = w32} (search rules)) c.rows_seen-end.ensures
+    c.loop-i.invariant.inside c.loop-i-test.false
+    ∙ task-parts c.args.state.now c.args.store.now c.args.outbox.now c.args.rows.now

@@ -6,7 +6,7 @@ use Rattle.board_text.proofs.Rows.{RowsLeft}
 use Rattle.board_text.proofs.buffer.put_buffers.Given as goal
 
 abbrev pub invariant-loop-i : goal.invariant-loop-i
-invariant-loop-i l = RowsLeft buffer_table l.rows l.initial.text l.at any i l.any l.i
+invariant-loop-i l = RowsLeft buffer_table l.rows l.initial.text l.at l.any l.i l.text l.next
 
 abbrev pub decreases-loop-i : goal.decreases-loop-i
-decreases-loop-i l = buffers - i
+decreases-loop-i l = buffers - l.i

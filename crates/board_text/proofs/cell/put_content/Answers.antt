@@ -1,5 +1,7 @@
 -- `put_content` meets its contract, by what the cell is. Assumes nothing.
-use Rattle.script.proofs.Signed.{read_back}
+use mir.Syntax.{w32}
+use mir.Facts.{to_z-of_z}
+use borrow.Author.Rules.{rules}
 use Rattle.script.proofs.Appending.{wrote}
 use Rattle.board_text.specs.Cell.{cell_text}
 use Rattle.board_text.proofs.Cells.{told}
@@ -13,7 +15,7 @@ pub returns-in-Signed : goal.returns-in-Signed
 unfolding cell_text
 returns-in-Signed c =
     told _ c.in-Signed.is
-    (rw (read_back _ c.in-Signed.known_told-in-Signed-1-own.given.0.1) at c.put_signed.ensures)
+    (rw (to_z-of_z {w = w32} {z = c.in-Signed.z} (search rules)) at c.put_signed.ensures)
 
 pub returns-in-State : goal.returns-in-State
 unfolding cell_text
@@ -27,7 +29,7 @@ pub returns-in-Time : goal.returns-in-Time
 unfolding cell_text
 returns-in-Time c =
     told _ c.in-Time.is
-    (rw (read_back _ c.in-Time.known_told-in-Time-1-own.given.0.1) at c.put_time.ensures)
+    (rw (to_z-of_z {w = w32} {z = c.in-Time.left} (search rules)) at c.put_time.ensures)
 
 pub returns-in-Task : goal.returns-in-Task
 unfolding cell_text

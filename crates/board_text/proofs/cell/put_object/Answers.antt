@@ -30,4 +30,4 @@ returns-in-48 c = arm objects c.in-48.is c.put-in-48.ensures
 
 pub returns-in_default : goal.returns-in_default
 unfolding object_name
-returns-in_default c = last_arm objects _ _ _ c.in_default.in_default-own.rest
+returns-in_default c = last_arm objects c.args.kind _ _ (search rules)

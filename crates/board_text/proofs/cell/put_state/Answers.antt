@@ -38,4 +38,4 @@ returns-in-16 c = arm states c.in-16.is c.put-in-16.ensures
 
 pub returns-in_default : goal.returns-in_default
 unfolding state_name
-returns-in_default c = last_arm states _ _ _ c.in_default.in_default-own.rest
+returns-in_default c = last_arm states c.args.state _ _ (search rules)

@@ -1,8 +1,6 @@
 -- `put_spaces` meets its contract. The invariant: what is left is the spaces from i on. Assumes nothing.
 use borrow.Author.Rules.{rules}
-use Prim.Native.Nat.{◌-◌}
 use mathlib.Core.Path.{refl}
-use Rattle.board_text.specs.Column.{spaces}
 use Rattle.board_text.proofs.Cells.{no-space-yet, more-spaces, all-spaces}
 use Rattle.board_text.proofs.column.put_spaces.Goals as goal
 

@@ -7,7 +7,7 @@ use Rattle.board_text.specs.Column.{spaces}
 use Rattle.board_text.proofs.column.put_spaces.Given as goal
 
 abbrev pub invariant-loop-i : goal.invariant-loop-i
-invariant-loop-i l = Left l.initial.text l.at (spaces l.n) l.next l.i (spaces (l.n - i)) × (length l.next ≡ length l.initial.text)
+invariant-loop-i l = Left l.initial.text l.at (spaces l.n) l.text l.next (spaces (l.n - l.i)) × (length l.text ≡ length l.initial.text)
 
 abbrev pub decreases-loop-i : goal.decreases-loop-i
-decreases-loop-i l = l.n - i
+decreases-loop-i l = l.n - l.i

@@ -1,5 +1,4 @@
 -- `put_mutexes` meets its contract. The invariant: what is left is the table from row i on. Assumes nothing.
-use Prim.Native.Nat.{◌-◌}
 use mathlib.Core.Path.{◌∙◌}
 use Rattle.board_text.specs.Column.{in_column}
 use Rattle.board_text.specs.Tables.{mutex_table}
@@ -17,7 +16,7 @@ pub loop-i-preserved : goal.loop-i-preserved
 unfolding mutex_table in_column
 loop-i-preserved c =
     row_put c.loop-i.invariant c.well_formed.1.1.0.1.0.1 _ c.loop-i-test.true (not-blank c.if-row.false)
-    c.put_unless-first.ensures c.put_row-next.ensures (c.put_row-next.auto.0 ∙ c.put_unless-first.auto.0)
+    c.put_unless-first.ensures c.put_row-next.ensures (c.put_row-next.auto.text ∙ c.put_unless-first.auto.text)
 
 pub returns : goal.returns
 unfolding mutex_table

@@ -5,9 +5,9 @@ use Rattle.buffer.proofs.Deleting.{ends-all}
 use Rattle.buffer.proofs.delete.delete.Goals as goal
 
 pub end_both-requires : goal.end_both-requires
-end_both-requires c = record { state_len = c.strike_out.auto.0 ∙ c.requires; tasks = search put-down-tasks; tasks_2 = search put-down-tasks }
+end_both-requires c = record { state_len = c.strike_out.auto.state ∙ c.requires; tasks = search put-down-tasks; tasks_2 = search put-down-tasks }
 
 pub returns : goal.returns
 returns c =
-    ends-all _ c.word.ensures c.queue_order-r.ensures c.queue_order-r.auto.1.1.1.0 c.word-2.ensures
-    c.queue_order-s.ensures c.queue_order-s.auto.1.1.1.0 c.strike_out.ensures c.end_both.ensures
+    ends-all _ c.word.ensures c.queue_order-r.ensures c.queue_order-r.auto.order c.word-2.ensures
+    c.queue_order-s.ensures c.queue_order-s.auto.order c.strike_out.ensures c.end_both.ensures

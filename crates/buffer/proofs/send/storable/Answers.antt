@@ -1,5 +1,6 @@
 -- `storable` meets its contract. Assumes nothing.
 use mir.Facts.{to_z-of_z}
+use mir.Syntax.{w32}
 use borrow.Author.Rules.{sfits_of}
 use Rattle.buffer.proofs.Sending.{storable-behind, storable-first}
 use mathlib.Core.Bool.{not}
@@ -12,4 +13,4 @@ returns-then-not-would_head c = storable-behind _ _ _ c.requires.caller_value c.
 pub returns : goal.returns
 returns c =
     storable-first _ _ _ c.requires.caller_value c.word.ensures c.would_head.ensures (ap not c.if-not-would_head.false) c.used-used.ensures
-    c.bufsz-bufsz.ensures c.room.ensures (to_z-of_z (sfits_of c.room.type_inv))
+    c.bufsz-bufsz.ensures c.room.ensures (to_z-of_z {w = w32} (sfits_of c.room.type_inv))

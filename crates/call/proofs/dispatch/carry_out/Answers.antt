@@ -9,14 +9,13 @@ tick-requires c = c.requires.allowed.words
 pub returns-in_default : goal.returns-in_default
 unfolding perform
 returns-in_default c =
-    let h = (c.requires.allowed, c.requires.caller_value) in
-    made-carries (nobody-ticks _ _ _ h.1 c.in_default.is h.0.unrefused) _
+    made-carries (nobody-ticks _ _ _ c.requires.caller_value c.in_default.is c.requires.allowed.unrefused) _
     ((c.tick.ensures _).carries _)
 
 pub perform_made-requires : goal.perform_made-requires
 perform_made-requires c =
-    let h = (c.requires.allowed, c.requires.caller_value) in
-    (h.0, caller_runs _ h.1 c.in-Task.is)
+    let r = caller_runs _ c.requires.caller_value c.in-Task.is in
+    record { allowed = c.requires.allowed; caller_value = r.0; le_caller = r.1 }
 
 pub returns : goal.returns
 returns c =

@@ -10,4 +10,4 @@ unfolding kind_of
 returns-in-Tick c = sym (ap is_tick c.in-Tick.is)
 
 pub returns-in_default : goal.returns-in_default
-returns-in_default c = not-a-tick _ c.in_default.in_default-own.keys2
+returns-in_default c = not-a-tick _ c.in_default.not-Tick

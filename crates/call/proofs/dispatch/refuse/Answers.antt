@@ -14,7 +14,9 @@ returns-in_default c =
     c.is_tick.ensures ∙ c.if-is_tick.false)
 
 pub refuse_made-requires : goal.refuse_made-requires
-refuse_made-requires c = (c.requires.state_len, caller_runs _ c.requires.caller_value c.in-Task.is)
+refuse_made-requires c =
+    let r = caller_runs _ c.requires.caller_value c.in-Task.is in
+    record { state_len = c.requires.state_len; caller_value = r.0; le_caller = r.1 }
 
 pub returns : goal.returns
 returns c = c.refuse_made.ensures

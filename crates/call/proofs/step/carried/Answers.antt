@@ -4,16 +4,14 @@ use Rattle.call.proofs.step.carried.Goals as goal
 
 pub carry_out-answer-requires : goal.carry_out-answer-requires
 carry_out-answer-requires c =
-    let h = (c.requires.ready, c.requires.message_value) in
-    record { allowed = record { words = h.0.words; sound = h.0.sound; unrefused = h.1 }; caller_value = h.0.runs }
+    record { allowed = record { words = c.requires.ready.words; sound = c.requires.ready.sound; unrefused = c.requires.message_value }; caller_value = c.requires.ready.runs }
 
 pub next_to_run-runs-requires : goal.next_to_run-runs-requires
 next_to_run-runs-requires c =
-    let h = (c.requires.ready, c.requires.message_value) in
-    step-bits _ _ _ h.0 h.1 c.carry_out-answer.ensures c.drain-end.ensures
+    let r = step-bits _ _ _ c.requires.ready c.requires.message_value c.carry_out-answer.ensures c.drain-end.ensures in
+    record { state_len = r.0; bitmap = r.1 }
 
 pub returns : goal.returns
 returns c =
-    let h = (c.requires.ready, c.requires.message_value) in
-    step-carries _ _ _ h.0 h.1 c.carry_out-answer.ensures c.drain-end.ensures c.next_to_run-runs.ensures
+    step-carries _ _ _ c.requires.ready c.requires.message_value c.carry_out-answer.ensures c.drain-end.ensures c.next_to_run-runs.ensures
     c.log_runs.ensures

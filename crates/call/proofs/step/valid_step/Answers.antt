@@ -2,6 +2,7 @@
 use mathlib.Core.Option.{some}
 use mathlib.Core.Path.{ap, ◌∙◌, sym}
 use mir.Facts.{to_z-of_z}
+use mir.Syntax.{w32}
 use borrow.Author.Rules.{rules}
 use Rattle.call.proofs.Stepping.{step-refuses}
 use Rattle.reply.proofs.Refusing.{was-allowed, was-refused}
@@ -18,5 +19,5 @@ returns c =
     step-refuses _ _ _ c.requires
     (was-refused _ (sym c.refuse-found.ensures
     ∙ c.in-Refused.is)
-    ∙ ap some (sym (to_z-of_z (search rules))))
+    ∙ ap some (sym (to_z-of_z {w = w32} (search rules))))
     c.log_answer-at.ensures c.log_runs.ensures

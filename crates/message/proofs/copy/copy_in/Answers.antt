@@ -1,5 +1,4 @@
 -- `copy_in` meets its contract. The loop's invariant says what is left to store; it ends at the end of the message or of the slice. Assumes nothing.
-use Prim.Native.Nat.{◌-◌}
 use native.Mathlib.Omega.{arith}
 use mathlib.Core.Path.{sym}
 use lib.ListN.{take, length-take}

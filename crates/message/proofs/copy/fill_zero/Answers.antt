@@ -1,5 +1,4 @@
 -- `fill_zero` meets its contract. The loop's invariant says what is left to store. Assumes nothing.
-use Prim.Native.Nat.{◌-◌}
 use native.Mathlib.Omega.{arith}
 use mathlib.Core.Path.{sym}
 use lib.ListN.{length-replicate, get_or-replicate}

@@ -1,5 +1,4 @@
 -- `shift` meets its contract. The loop's invariant says what is left to move, and that what has yet to be read is as it was. Assumes nothing.
-use Prim.Native.Nat.{◌-◌}
 use native.Mathlib.Omega.{arith}
 use lib.ListN.{drop_of_length-le}
 use Rattle.message.proofs.Stores.{moved_none, moved-turn, moved_all}

@@ -1,6 +1,5 @@
 -- `outbox_clear` meets its contract: zeros are a message of no bytes. Assumes nothing.
 use mathlib.Core.List.{[]}
-use Rattle.model.specs.Lists.{zeros}
 use Rattle.message.proofs.Parts.{outbox-back}
 use Rattle.message.proofs.Packing.{zeros-padded}
 use Rattle.message.proofs.outbox.outbox_clear.Goals as goal

@@ -1,6 +1,6 @@
 -- `store_oldest` meets its contract: the region lent is the definition's. Assumes nothing.
 use mathlib.Core.Path.{◌∙◌, ap}
-use Rattle.model.specs.Message.{oldest, region}
+use Rattle.model.specs.Message.{oldest}
 use Rattle.message.proofs.Parts.{region-lent}
 use Rattle.message.proofs.store.store_oldest.Goals as goal
 

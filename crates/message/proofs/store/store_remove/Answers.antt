@@ -1,5 +1,5 @@
 -- `store_remove` meets its contract: the region lent and put back is the definition's. Assumes nothing.
-use Rattle.model.specs.Message.{removed, region}
+use Rattle.model.specs.Message.{removed}
 use Rattle.message.proofs.Parts.{region-back}
 use Rattle.message.proofs.Packing.{length_removed}
 use Rattle.message.proofs.store.store_remove.Goals as goal

@@ -12,11 +12,11 @@ returns-in_default c =
     c.requires.mutex_value c.in_default.is)
 
 pub end_waits-next-requires : goal.end_waits-next-requires
-end_waits-next-requires c = record { state_len = c.strike_out.ensures.length; tasks = put-down-tasks _ _ c.queue_order-start.ensures c.queue_order-start.auto.1.1.1.0 }
+end_waits-next-requires c = record { state_len = c.strike_out.ensures.length; tasks = put-down-tasks _ _ c.queue_order-start.ensures c.queue_order-start.auto.order }
 
 pub returns : goal.returns
 unfolding del_mtx settled with_kernel
 returns c =
     deletes mutex_kind locking struck_out _ (to_z-of_z c.ranges.mutex) c.from_field-found.ensures c.in-Mutex.is _
-    c.requires.state_len c.word.ensures c.queue_order-start.ensures c.queue_order-start.auto.1.1.1.0 c.log_answer-waits.ensures
+    c.requires.state_len c.word.ensures c.queue_order-start.ensures c.queue_order-start.auto.order c.log_answer-waits.ensures
     c.strike_out.ensures c.end_waits-next.ensures

@@ -17,8 +17,7 @@ returns-then-holder-ne0 c =
 
 pub take-requires : goal.take-requires
 take-requires c =
-    let h = (c.requires.state_len, (c.requires.caller_value, (c.requires.timeout_value, (c.requires.priorities, (c.requires.bitmap, c.requires.each))))) in
-    record { state_len = h.0; priorities = h.1.1.1.0; bitmap = h.1.1.1.1.0; each = h.1.1.1.1.1; m_value = sym c.holder.ensures ∙ c.if-holder-ne0.false }
+    record { state_len = c.requires.state_len; priorities = c.requires.priorities; bitmap = c.requires.bitmap; each = c.requires.each; m_value = sym c.holder.ensures ∙ c.if-holder-ne0.false }
 
 pub returns : goal.returns
 returns c =

@@ -1,13 +1,8 @@
 -- `free_all` meets its contract: what is left are the blocks from the next one on. Assumes nothing.
-use Prim.Native.Nat.{◌-◌}
 use native.Mathlib.Omega.{arith}
-use mathlib.Core.Path.{◌∙◌, sym}
 use borrow.Author.Rules.{rules}
 use Rattle.pool.proofs.Deleting.{frees_all, frees-more, frees-done}
 use Rattle.pool.proofs.delete.free_all.Goals as goal
-
--- GONE same_length : tie.Need-same-length invariant-loop decreases-loop
--- same_length c = c.before.loop.invariant.0.words ∙ sym c.before.before.before.requires
 
 pub loop-n-init : goal.loop-n-init
 loop-n-init c = (search (frees_all), omega arith)

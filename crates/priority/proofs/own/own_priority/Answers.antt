@@ -1,6 +1,5 @@
 -- `own_priority` meets its contract. The loop's invariant: the most urgent of the base and of the ceilings held of the mutexes passed. Assumes nothing.
 use mathlib.Core.Path.{◌≡◌, ◌∙◌}
-use Prim.Native.Nat.{◌-◌}
 use native.Mathlib.Numerals.{add-one}
 use native.Mathlib.Omega.{arith}
 use Rattle.model.specs.Sizes.{mutexes}

@@ -5,19 +5,12 @@ use mathlib.Core.Path.{◌≡◌, ◌∙◌, sym, subst}
 use mathlib.Core.Logic.{inr}
 use mathlib.Core.List.{List}
 use lib.ListN.{length}
-use Rattle.model.specs.Sizes.{tasks, mutexes}
+use Rattle.model.specs.Sizes.{tasks}
 use Rattle.model.specs.Lists.{◌!◌}
-use Rattle.model.specs.Facts.{inherits}
-use Rattle.model.specs.Number.{word_number, maybe_task, maybe_mutex}
-use Rattle.model.specs.declared.number.MaybeTask.{MaybeTask}
-use Rattle.model.specs.declared.number.MaybeTask.TheVariants.{Task}
-use Rattle.model.specs.declared.number.MaybeMutex.{MaybeMutex}
-use Rattle.model.specs.declared.number.MaybeMutex.TheVariants.{Mutex}
-use Rattle.model.specs.Kernel.{facts, with_current}
-use Rattle.model.proofs.NumberLaws.{Names, task-there, task-none, mutex-there, mutex-none}
+use Rattle.model.specs.Kernel.{with_current}
+use Rattle.model.proofs.NumberLaws.{task-there, task-none, mutex-there, mutex-none}
 use Rattle.model.specs.Words.{word_count, kernel}
 use Rattle.state.specs.Words.{Represents}
-use Rattle.priority.specs.Walk.{mutex_awaited}
 use Rattle.priority.proofs.WordLaws.{unchanged, onto}
 use Rattle.priority.proofs.WalkLaws.{stays, RaisedAlone, fewer, raised-on, waits-not, waits-for, passes-not, held-not, held_by}
 use Rattle.priority.proofs.walk.+raise_mutex_raise_task.Goals as goal

@@ -1,6 +1,6 @@
 -- The two walks, which call each other. A task's measure is twice the number of tasks not yet visited: a raise visits one of them. A mutex's lies
 -- between, one more than that of the task that it leads to.
-use Prim.Native.Nat.{ℕ, ◌+◌, ◌*◌}
+use Prim.Native.Nat.{◌+◌, ◌*◌}
 use Rattle.model.specs.Words.{kernel}
 use Rattle.priority.proofs.StepLaws.{unvisited}
 use Rattle.priority.proofs.walk.+raise_mutex_raise_task.Given as goal

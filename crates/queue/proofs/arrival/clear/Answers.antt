@@ -1,7 +1,5 @@
 -- `clear` meets its contract. The loop's invariant: the places passed are none's. Assumes nothing.
-use Prim.Native.Nat.{◌-◌}
 use native.Mathlib.Omega.{arith}
-use mathlib.Core.Path.{◌∙◌, sym}
 use Rattle.queue.proofs.ArrivingLaws.{clear-start, clear-more, clear-done}
 use Rattle.queue.proofs.arrival.clear.Goals as goal
 

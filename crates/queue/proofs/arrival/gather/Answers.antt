@@ -1,8 +1,5 @@
 -- `gather` meets its contract. The loop's invariant: the places seen are gathered, and j counts the others among them. Assumes nothing.
-use Prim.Native.Nat.{◌-◌}
 use native.Mathlib.Omega.{arith}
-use mathlib.Core.Path.{◌∙◌, sym}
-use lib.ListN.{length}
 use Rattle.queue.proofs.ArrivingLaws.{gather-start, gather-more, gather-done}
 use Rattle.queue.proofs.arrival.gather.Goals as goal
 

@@ -1,9 +1,8 @@
 -- `most_urgent` meets its contract. The loop's invariant: the best from here on, from the best so far, is the best at all. Assumes nothing.
-use Prim.Native.Nat.{ℕ, ◌+◌, ◌-◌}
+use Prim.Native.Nat.{ℕ, ◌+◌}
 use native.Mathlib.Omega.{arith}
 use mathlib.Core.Path.{◌≡◌, ◌∙◌, refl, sym, ap}
 use mathlib.Core.Bool.{cond}
-use Rattle.model.specs.Sizes.{tasks}
 use Rattle.model.specs.Lists.{◌!◌}
 use Rattle.model.specs.Facts.{queue}
 use Rattle.model.specs.Kernel.{numbered, stands_in}

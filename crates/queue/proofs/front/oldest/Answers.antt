@@ -1,5 +1,4 @@
 -- `oldest` meets its contract. The loop's invariant: what is found from here on is what is found at all. Assumes nothing.
-use Prim.Native.Nat.{◌-◌}
 use native.Mathlib.Omega.{arith}
 use mathlib.Core.Path.{◌∙◌, refl, sym, ap}
 use Rattle.model.specs.Lists.{head_of}

@@ -1,5 +1,4 @@
 -- `next_to_run` meets its contract. The loops' invariants: what is left of the search decides what it finds. Assumes nothing.
-use Prim.Native.Nat.{◌-◌}
 use native.Mathlib.Omega.{arith}
 use mathlib.Core.Path.{◌∙◌, refl, sym}
 use lib.Count.{trailing_le}

@@ -4,7 +4,7 @@ use native.Mathlib.Omega.{arith}
 use mathlib.Core.Path.{◌≡◌, ◌∙◌, sym, ap}
 use lib.ListN.{length}
 use Rattle.model.specs.Lists.{◌!◌}
-use Rattle.model.specs.Record.{kinds, row_of, field}
+use Rattle.model.specs.Record.{kinds, row_of}
 use Rattle.script.specs.Body.{call_in}
 use Rattle.script.proofs.Rows.{Known, known-row, unknown-row}
 use Rattle.script.proofs.Making.{same}

@@ -1,5 +1,4 @@
 -- `free_block` meets its contract. The loop's invariant: the first free block is that of the blocks still to be seen. Assumes nothing.
-use Prim.Native.Nat.{◌-◌}
 use Rattle.search.proofs.Blocks.{search-all, search-hit, search-more, search-done}
 use Rattle.search.proofs.block.free_block.Goals as goal
 

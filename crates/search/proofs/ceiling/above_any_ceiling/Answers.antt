@@ -1,6 +1,4 @@
 -- `above_any_ceiling` meets its contract. The loop's invariant: the mutexes still to be asked decide. Assumes nothing.
-use Prim.Native.Nat.{◌-◌}
-use Rattle.model.specs.Refusal.{above_ceiling}
 use Rattle.search.proofs.Searches.{anys}
 use Rattle.search.proofs.ceiling.above_any_ceiling.Goals as goal
 

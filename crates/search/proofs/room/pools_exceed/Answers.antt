@@ -1,5 +1,4 @@
 -- `pools_exceed` meets its contract. The loop's invariant: the pools still to be counted and the bytes that are left decide. Assumes nothing.
-use Prim.Native.Nat.{◌-◌}
 use borrow.Author.Rules.{rules}
 use Rattle.model.specs.Refusal.{pool_sum}
 use Rattle.search.proofs.Sums.{add-first-over, add-all, add-over, add-more, add-never, add_done}

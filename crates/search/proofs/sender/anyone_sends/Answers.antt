@@ -1,5 +1,4 @@
 -- `anyone_sends` meets its contract. The loop's invariant: the tasks still to be asked decide. Assumes nothing.
-use Prim.Native.Nat.{◌-◌}
 use Rattle.search.proofs.Searches.{anys}
 use Rattle.search.proofs.sender.anyone_sends.Goals as goal
 

@@ -1,5 +1,4 @@
 -- `unused_task` meets its contract. The loop's invariant: the first free number is that of the tasks still to be asked. Assumes nothing.
-use Prim.Native.Nat.{◌-◌}
 use Rattle.model.proofs.NumberLaws.{task_kind}
 use Rattle.search.proofs.Searches.{unused-all, unused-here, unused-later, unused-never, unused-none}
 use Rattle.search.proofs.unused.unused_task.Goals as goal

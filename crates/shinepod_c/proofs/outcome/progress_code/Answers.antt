@@ -6,7 +6,7 @@ use Rattle.shinepod_c.specs.Outcome.{progress_code}
 use Rattle.shinepod_c.proofs.outcome.progress_code.Goals as goal
 
 pub returns-in-Answered : goal.returns-in-Answered
-returns-in-Answered c = to_z-of_z (search rules) ∙ c.code_of_lem.ensures ∙ ap progress_code (sym c.in-Answered.is)
+returns-in-Answered c = to_z-of_z (search rules) ∙ c.code_of.ensures ∙ ap progress_code (sym c.in-Answered.is)
 
 pub returns-in-Over : goal.returns-in-Over
 returns-in-Over c = ap progress_code (sym c.in-Over.is)

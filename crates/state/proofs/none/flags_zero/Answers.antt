@@ -1,5 +1,4 @@
 -- `flags_zero` meets its contract. The loop's invariant: the flags still to be read decide. Assumes nothing.
-use Prim.Native.Nat.{◌-◌}
 use native.Mathlib.Omega.{arith}
 use mathlib.Core.Path.{refl}
 use borrow.Author.Tests.{not-true, not-false}

@@ -1,7 +1,5 @@
 -- `set_every_current` meets its contract. The loop's invariant: the tasks passed have the number. Assumes nothing.
-use Prim.Native.Nat.{◌-◌}
 use native.Mathlib.Omega.{arith}
-use mathlib.Core.Path.{◌∙◌, sym}
 use Rattle.state.proofs.Currents.{fill_start, fill_step, fill_done}
 use Rattle.state.proofs.task.set_every_current.Goals as goal
 

@@ -42,5 +42,6 @@ returns-in-6 c = rw (← c.place-place.ensures, c.in-6.is)
 
 pub returns-in_default : goal.returns-in_default
 unfolding awaited_kind
-returns-in_default c = let r = c.in_default.in_default-own.rest in
-    rw (← c.place-place.ensures, ne_eqb _ _ r.0.0.0.1, ne_eqb _ _ r.0.0.1, ne_eqb _ _ r.0.1, ne_eqb _ _ r.1)
+returns-in_default c =
+    let place = c.place-place.result in
+    rw (← c.place-place.ensures, ne_eqb place 3 (search rules), ne_eqb place 4 (search rules), ne_eqb place 5 (search rules), ne_eqb place 6 (search rules))

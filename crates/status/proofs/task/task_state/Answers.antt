@@ -16,11 +16,11 @@ returns-then-place-ne-READY c = rw (← c.place-place.ensures, ne_eqb _ _ c.if-p
 pub returns-then-number_of-word : goal.returns-then-number_of-word
 unfolding task_state
 returns-then-number_of-word c =
-    let runs = number-made c.next_to_run.ensures c.number_of_lem.ensures in
+    let runs = number-made c.next_to_run.ensures c.number_of.ensures in
     rw (← c.place-place.ensures, c.if-place-ne-READY.false, eq-eqb _ _ (sym runs ∙ c.if-number_of-word.true ∙ c.word.ensures))
 
 pub returns-else-number_of-word : goal.returns-else-number_of-word
 unfolding task_state
 returns-else-number_of-word c =
-    let runs = number-made c.next_to_run.ensures c.number_of_lem.ensures in
+    let runs = number-made c.next_to_run.ensures c.number_of.ensures in
     rw (← c.place-place.ensures, c.if-place-ne-READY.false, ne_eqb _ _ (λ e. c.if-number_of-word.false (runs ∙ e ∙ sym c.word.ensures)))

@@ -1,6 +1,4 @@
 -- `all_started` meets its contract. The loop's invariant: the places that are left decide. Assumes nothing.
-use Prim.Native.Nat.{◌-◌}
-use Rattle.model.specs.Lists.{all}
 use Rattle.state.proofs.WordLaws.{arrivals-long}
 use Rattle.model.proofs.Loops.{over-all}
 use Rattle.valid.proofs.Arrivals.{started-more, started-stop, started-done}

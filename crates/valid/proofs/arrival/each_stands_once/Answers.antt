@@ -1,7 +1,5 @@
 -- `each_stands_once` meets its contract. The loop's invariant: the tasks still to be asked decide. Assumes nothing.
-use Prim.Native.Nat.{◌-◌}
 use Rattle.model.proofs.Loops.{asks}
-use Rattle.valid.specs.Parts.{stands_once}
 use Rattle.valid.proofs.arrival.each_stands_once.Goals as goal
 
 pub loop-n-init : goal.loop-n-init

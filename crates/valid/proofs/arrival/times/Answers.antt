@@ -1,5 +1,4 @@
 -- `times` meets its contract. The loop's invariant: those counted and those in the places that are left are all. Assumes nothing.
-use Prim.Native.Nat.{◌-◌}
 use Rattle.state.proofs.WordLaws.{arrivals-long}
 use Rattle.valid.proofs.Arrivals.{count-all, count_fits, count-more, count-done}
 use Rattle.valid.proofs.arrival.times.Goals as goal

@@ -1,5 +1,4 @@
 -- `zeros_last` meets its contract. The loop's invariant: the places that are left decide. Assumes nothing.
-use Prim.Native.Nat.{◌-◌}
 use Rattle.state.proofs.WordLaws.{arrivals-long}
 use Rattle.valid.proofs.Arrivals.{gap-all, gap-stop, gap_more, gap-done}
 use Rattle.valid.proofs.arrival.zeros_last.Goals as goal

@@ -1,5 +1,4 @@
 -- `copy` meets its contract. The loop's invariant: the words passed are copied. Assumes nothing.
-use Prim.Native.Nat.{◌-◌}
 use Rattle.valid.proofs.Currents.{copy_start, copy_more, copy_done}
 use Rattle.valid.proofs.current.copy.Goals as goal
 

@@ -1,7 +1,5 @@
 -- `same_currents` meets its contract. The loop's invariant: the tasks still to be asked decide. Assumes nothing.
-use Prim.Native.Nat.{◌-◌}
 use Rattle.model.proofs.Loops.{asks}
-use Rattle.valid.specs.Parts.{same_current}
 use Rattle.valid.proofs.current.same_currents.Goals as goal
 
 pub loop-n-init : goal.loop-n-init

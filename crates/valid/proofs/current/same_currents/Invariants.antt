@@ -2,7 +2,7 @@
 use Prim.Native.Nat.{suc, ◌-◌}
 use Rattle.model.specs.Sizes.{tasks}
 use Rattle.model.proofs.NumberLaws.{task_kind}
-use Rattle.model.proofs.Loops.{AskedAll, asks}
+use Rattle.model.proofs.Loops.{AskedAll}
 use Rattle.model.specs.Words.{kernel}
 use Rattle.valid.specs.Parts.{same_current}
 use Rattle.valid.proofs.current.same_currents.Given as goal

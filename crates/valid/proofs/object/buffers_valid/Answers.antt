@@ -1,5 +1,4 @@
 -- `buffers_valid` meets its contract. The loop's invariant: the buffers still to be asked decide. Assumes nothing.
-use Prim.Native.Nat.{◌-◌}
 use Rattle.model.proofs.Loops.{asks}
 use Rattle.valid.proofs.object.buffers_valid.Goals as goal
 

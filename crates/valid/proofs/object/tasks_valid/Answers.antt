@@ -1,5 +1,4 @@
 -- `tasks_valid` meets its contract. The loop's invariant: the tasks still to be asked decide. Assumes nothing.
-use Prim.Native.Nat.{◌-◌}
 use Rattle.model.proofs.Loops.{asks}
 use Rattle.valid.proofs.object.tasks_valid.Goals as goal
 

@@ -3,7 +3,7 @@ use Prim.Native.Nat.{suc, ◌-◌}
 use Rattle.model.specs.Sizes.{tasks}
 use Rattle.model.specs.Flags.{passes}
 use Rattle.model.proofs.NumberLaws.{task_kind}
-use Rattle.model.proofs.Loops.{AskedAll, asks}
+use Rattle.model.proofs.Loops.{AskedAll}
 use Rattle.model.specs.Words.{kernel}
 use Rattle.valid.specs.Check.{task_tests}
 use Rattle.valid.proofs.object.tasks_valid.Given as goal

@@ -1,7 +1,4 @@
 -- `flags_of` meets its contract. The loop's invariant: the blocks still to be asked decide. Assumes nothing.
-use Prim.Native.Nat.{◌-◌}
-use Rattle.model.specs.Lists.{all}
-use Rattle.model.specs.Valid.{block_flag}
 use Rattle.model.proofs.Loops.{lefts}
 use Rattle.valid.proofs.pool.flags_of.Goals as goal
 

@@ -1,6 +1,4 @@
 -- `flags_of_pools` meets its contract. The loop's invariant: the pools still to be asked decide. Assumes nothing.
-use Prim.Native.Nat.{◌-◌}
-use Rattle.model.specs.Lists.{all}
 use Rattle.model.proofs.Loops.{asks}
 use Rattle.valid.proofs.pool.flags_of_pools.Goals as goal
 

@@ -1,6 +1,4 @@
 -- `mutexes_in_range` meets its contract. The loop's invariant: the mutexes still to be asked decide. Assumes nothing.
-use Prim.Native.Nat.{◌-◌}
-use Rattle.model.specs.Valid.{mutex_range}
 use Rattle.model.proofs.Loops.{asks}
 use Rattle.valid.proofs.range.mutexes_in_range.Goals as goal
 

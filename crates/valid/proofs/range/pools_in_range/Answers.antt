@@ -1,6 +1,4 @@
 -- `pools_in_range` meets its contract. The loop's invariant: the pools still to be asked decide. Assumes nothing.
-use Prim.Native.Nat.{◌-◌}
-use Rattle.model.specs.Valid.{pool_range}
 use Rattle.model.proofs.Loops.{asks}
 use Rattle.valid.proofs.range.pools_in_range.Goals as goal
 

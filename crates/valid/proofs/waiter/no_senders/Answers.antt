@@ -1,7 +1,5 @@
 -- `no_senders` meets its contract. The loop's invariant: the tasks still to be asked decide. Assumes nothing.
-use Prim.Native.Nat.{◌-◌}
 use Rattle.model.proofs.Loops.{asks}
-use Rattle.valid.specs.Parts.{no_sender}
 use Rattle.valid.proofs.waiter.no_senders.Goals as goal
 
 pub loop-n-init : goal.loop-n-init

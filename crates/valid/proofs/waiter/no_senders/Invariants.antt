@@ -2,7 +2,7 @@
 use Prim.Native.Nat.{suc, ◌-◌}
 use Rattle.model.specs.Sizes.{tasks}
 use Rattle.model.proofs.NumberLaws.{task_kind}
-use Rattle.model.proofs.Loops.{AskedAll, asks}
+use Rattle.model.proofs.Loops.{AskedAll}
 use Rattle.model.specs.Words.{kernel}
 use Rattle.valid.specs.Parts.{no_sender}
 use Rattle.valid.proofs.waiter.no_senders.Given as goal

@@ -1,0 +1,15 @@
+-- The loop of `shinepod_ref_mbf`: after i turns the table is `written` of i objects. Assumes nothing.
+use mathlib.Core.Path.{◌≡◌}
+use Prim.Native.Nat.{◌-◌, ◌≤◌}
+use Rattle.board.specs.Table.{written}
+use Rattle.board.proofs.RowKinds.{buffer-exists, buffer-row}
+use Rattle.board.proofs.buffer.shinepod_ref_mbf.Given as goal
+
+abbrev pub invariant-loop-i : goal.invariant-loop-i
+invariant-loop-i l = record {
+  rows : l.rows ≡ written (buffer-exists l.state) (buffer-row l.state l.store l.outbox) 1 l.i l.fn.rows;
+  inside : l.i ≤ l.end;
+}
+
+abbrev pub decreases-loop-i : goal.decreases-loop-i
+decreases-loop-i l = l.end - l.i
