@@ -9,3 +9,4 @@ pub mod Rest
 pub mod ByCase
 pub mod RefusalLaws
 pub mod Folds
+pub mod Cases

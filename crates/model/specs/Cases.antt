@@ -1,6 +1,6 @@
 -- 01, "On both sides of the mark": every bullet that has a [P], whole, and beside them a case for sentences that no bullet holds, and both sides of 02's requests Two, Five and Nine, as
 -- one table under one statement, proved by computing; and the numbers of request Nine and the bits of request Three, tables of their own.
-use Rattle.std.specs.Prelude.{ℕ, suc, pred, ◌+◌, ◌-◌, ◌^◌, ◌≡◌, refl, true, false, not, length, get_or, ℤ, pos, eqb}
+use Rattle.std.specs.Prelude.{ℕ, suc, pred, ◌+◌, ◌-◌, ◌^◌, ◌≡◌, false, not, get_or, ℤ, pos, eqb}
 use mathlib.Core.List.{List, [], ◌∷◌, ◌++◌, map, foldl}
 use Rattle.model.specs.declared.call.Call.{Call}
 use Rattle.model.specs.declared.call.Call.TheVariants.{CreTsk, StaTsk, ExtTsk, ChgPri, CreMtx, LocMtx, UnlMtx, CreMbf, DelMbf, SndMbf, RcvMbf, CreMpf, GetMpf, RelMpf, Tick}
@@ -17,9 +17,6 @@ use Rattle.model.specs.Message.{part, room}
 use Rattle.model.specs.Record.{fields_of}
 use Rattle.model.specs.Valid.{valid}
 use Rattle.model.specs.Step.{Outcome, step, fresh_lent}
-use Rattle.model.specs.Lent.{Areas, with_log, not_valid}
-use Rattle.model.specs.Compute.{compute}
-use Rattle.model.specs.Script.{script_log}
 
 -- What is seen of a run: each call's answer, the ended waits with their codes, what was delivered to whom, and numbers of what is lent at
 -- the end.
@@ -110,14 +107,14 @@ new n = Code (pos n)
 -- ---- messages
 
 -- "msgsz -1, 0: -17."
-no_message : Case
+unfoldable pub no_message : Case
 no_message =
     case_with (λ c. up_to message_bytes)
     (CreMbf (pos 0) (pos 256) (pos 32) ∷ SndMbf (pos 1) (minus 1) forever ∷ SndMbf (pos 1) (pos 0) forever ∷ [])
     (used 1 ∷ []) (seen (new 1 ∷ Code E_PAR ∷ Code E_PAR ∷ []) [] [] (0 ∷ []))
 
 -- "1 stored at cost 8."
-one_byte : Case
+unfoldable pub one_byte : Case
 one_byte =
     case (CreMbf (pos 0) (pos 256) (pos 32) ∷ SndMbf (pos 1) (pos 1) forever ∷ [])
     (used 1 ∷ []) (seen (new 1 ∷ OK ∷ []) [] [] (8 ∷ []))
@@ -126,7 +123,7 @@ one_byte =
 abbrev send32 : Call
 send32 = SndMbf (pos 1) (pos 32) forever
 
-eighth_waits : Case
+unfoldable pub eighth_waits : Case
 eighth_waits =
     case
     (CreMbf (pos 0) (pos 256) (pos 32)
@@ -138,20 +135,20 @@ abbrev second : List Call
 second = CreTsk (pos 9) ∷ StaTsk (pos 2) ∷ []
 
 -- "bufsz 35, 32 bytes: waits until a receiver comes."
-too_small : Case
+unfoldable pub too_small : Case
 too_small =
     case (second ++ CreMbf (pos 0) (pos 35) (pos 32) ∷ send32 ∷ RcvMbf (pos 1) forever ∷ [])
     (used 1 ∷ []) (seen (new 2 ∷ OK ∷ new 1 ∷ Waits ∷ new 32 ∷ []) ((1, E_OK) ∷ []) ((2, message 32) ∷ []) (0 ∷ []))
 
 -- "bufsz 36: stored." "packed: length (4 bytes), bytes, zeros"
-just_fits : Case
+unfoldable pub just_fits : Case
 just_fits =
     case (CreMbf (pos 0) (pos 36) (pos 32) ∷ send32 ∷ [])
     (used 1 ∷ store_byte 0 ∷ store_byte 1 ∷ store_byte 3 ∷ store_byte 4 ∷ store_byte 5 ∷ store_byte 35 ∷ [])
     (seen (new 1 ∷ OK ∷ []) [] [] (36 ∷ 32 ∷ 0 ∷ 0 ∷ 1 ∷ 2 ∷ 32 ∷ []))
 
 -- "Receive: the oldest stored message"
-oldest_first : Case
+unfoldable pub oldest_first : Case
 oldest_first =
     case
     (CreMbf (pos 0) (pos 256) (pos 32) ∷ SndMbf (pos 1) (pos 5) forever ∷ SndMbf (pos 1) (pos 2) forever ∷ RcvMbf (pos 1) forever ∷ [])
@@ -159,7 +156,7 @@ oldest_first =
     (seen (new 1 ∷ OK ∷ OK ∷ new 5 ∷ []) [] ((1, message 5) ∷ []) (8 ∷ 2 ∷ 1 ∷ 2 ∷ 0 ∷ 0 ∷ []))
 
 -- "bufsz 0: always handed over": to a receiver that comes, and to one that waits
-handed_over : Case
+unfoldable pub handed_over : Case
 handed_over =
     case
     (second ++ CreMbf (pos 0) (pos 0) (pos 32) ∷ SndMbf (pos 1) (pos 1) forever ∷ RcvMbf (pos 1) forever
@@ -168,19 +165,19 @@ handed_over =
     (seen (new 2 ∷ OK ∷ new 1 ∷ Waits ∷ new 1 ∷ Waits ∷ OK ∷ []) ((1, E_OK) ∷ (1, pos 3) ∷ []) ((2, message 1) ∷ (1, message 3) ∷ []) (0 ∷ []))
 
 -- "Only the first msgsz of the 32 bytes count": with five bytes handed over the others are zeros
-few_bytes : Case
+unfoldable pub few_bytes : Case
 few_bytes =
     case_with (λ c. up_to 5) (CreMbf (pos 0) (pos 256) (pos 32) ∷ SndMbf (pos 1) (pos 7) forever ∷ RcvMbf (pos 1) forever ∷ [])
     (used 1 ∷ []) (seen (new 1 ∷ OK ∷ new 7 ∷ []) [] ((1, Message (up_to 5 ++ 0 ∷ 0 ∷ [])) ∷ []) (0 ∷ []))
 
 -- "maxmsz 32 taken, 33: -17."
-longest_message : Case
+unfoldable pub longest_message : Case
 longest_message =
     case (CreMbf (pos 0) (pos 256) (pos 32) ∷ CreMbf (pos 0) (pos 256) (pos 33) ∷ [])
     [] (seen (new 1 ∷ Code E_PAR ∷ []) [] [] [])
 
 -- "Timeout -1 waits, -2: -17": task 1 receives, task 2 locks, task 3 gets and task 4 sends, each first with -2 and then with -1
-timeouts : Case
+unfoldable pub timeouts : Case
 timeouts =
     case
     (second ++ CreTsk (pos 10) ∷ StaTsk (pos 3) ∷ CreTsk (pos 11) ∷ StaTsk (pos 4) ∷ CreMbf (pos 0) (pos 0) (pos 1) ∷ CreMbf (pos 0) (pos 0) (pos 1)
@@ -194,7 +191,7 @@ timeouts =
     [] ((1, Block 1) ∷ []) [])
 
 -- "Ceiling 16 taken, 17: -17, but with attributes 0 to 2 any ceiling is ignored and kept as 0."
-ceilings : Case
+unfoldable pub ceilings : Case
 ceilings =
     case
     (CreMtx (pos 3) (pos 16) ∷ CreMtx (pos 3) (pos 17) ∷ CreMtx (pos 0) (pos 5) ∷ CreMtx (pos 1) (pos 17) ∷ CreMtx (pos 2) (minus 1) ∷ [])
@@ -203,7 +200,7 @@ ceilings =
 
 -- "Buffer attribute 0, free 20; A waits with 28 bytes, then B sends 4 without a timeout: B waits too." A is task 1, B task 2. "A waiting sender's
 -- bytes lie at the start of its part of the bay. All other bytes are zero."
-no_passing : Case
+unfoldable pub no_passing : Case
 no_passing =
     case
     (second ++ CreMbf (pos 0) (pos 56) (pos 32) ∷ send32 ∷ SndMbf (pos 1) (pos 28) forever ∷ SndMbf (pos 1) (pos 4) forever ∷ [])
@@ -211,7 +208,7 @@ no_passing =
     (seen (new 2 ∷ OK ∷ new 1 ∷ OK ∷ Waits ∷ Waits ∷ []) [] [] (36 ∷ 1 ∷ 28 ∷ 0 ∷ 1 ∷ 4 ∷ 0 ∷ []))
 
 -- "Last in each call, buffers 1 to 4": task 1's second message waits at the last buffer until task 2 has received the first
-last_drained : Case
+unfoldable pub last_drained : Case
 last_drained =
     case
     (second ++ CreMbf (pos 0) (pos 0) (pos 1) ∷ CreMbf (pos 0) (pos 0) (pos 1) ∷ CreMbf (pos 0) (pos 0) (pos 1) ∷ CreMbf (pos 0) (pos 36) (pos 32)
@@ -220,7 +217,7 @@ last_drained =
     (seen (new 2 ∷ OK ∷ new 1 ∷ new 2 ∷ new 3 ∷ new 4 ∷ OK ∷ Waits ∷ new 32 ∷ []) ((1, E_OK) ∷ []) ((2, message 32) ∷ []) (12 ∷ 0 ∷ []))
 
 -- "Deletions: waits there end with -51 E_DLT": of a sender, whose bytes leave the sending bay
-sender_deleted : Case
+unfoldable pub sender_deleted : Case
 sender_deleted =
     case (second ++ CreMbf (pos 0) (pos 0) (pos 32) ∷ SndMbf (pos 1) (pos 7) forever ∷ DelMbf (pos 1) ∷ [])
     (outbox_byte 1 0 ∷ []) (seen (new 2 ∷ OK ∷ new 1 ∷ Waits ∷ OK ∷ []) ((1, E_DLT) ∷ []) [] (0 ∷ []))
@@ -234,41 +231,41 @@ send_of bytes buffer msgsz answer n =
     (used 1 ∷ []) (seen (new 1 ∷ answer ∷ []) [] [] (n ∷ []))
 
 -- msgsz 1: the second byte, the last of the 32
-next_dirty : Case
+unfoldable pub next_dirty : Case
 next_dirty = send_of (7 ∷ 7 ∷ []) 1 1 (Code E_PAR) 0
 
-last_dirty : Case
+unfoldable pub last_dirty : Case
 last_dirty = send_of (7 ∷ zeros 30 ++ 7 ∷ []) 1 1 (Code E_PAR) 0
 
 -- msgsz 31: one byte is behind it
-dirty_behind31 : Case
+unfoldable pub dirty_behind31 : Case
 dirty_behind31 = send_of (up_to 32) 1 31 (Code E_PAR) 0
 
 -- zeros behind the message; none behind it; one that is not among the 32
-clean_tail : Case
+unfoldable pub clean_tail : Case
 clean_tail = send_of (7 ∷ zeros 31) 1 1 OK 8
 
-no_tail : Case
+unfoldable pub no_tail : Case
 no_tail = send_of (up_to 32) 1 32 OK 36
 
-beyond_message : Case
+unfoldable pub beyond_message : Case
 beyond_message = send_of (7 ∷ zeros 31 ++ 7 ∷ []) 1 1 OK 8
 
 -- "msgsz > maxmsz" in order 7, whatever the bytes: order 4 does not apply, as is seen where the buffer is missing
-too_long : Case
+unfoldable pub too_long : Case
 too_long = send_of (up_to 32) 1 33 (Code E_PAR) 0
 
-too_long_clean : Case
+unfoldable pub too_long_clean : Case
 too_long_clean = send_of [] 1 33 (Code E_PAR) 0
 
-too_long_missing : Case
+unfoldable pub too_long_missing : Case
 too_long_missing = send_of (up_to 32) 2 33 (Code E_NOEXS) 0
 
 -- orders 5 and 6 come later
-dirty_missing : Case
+unfoldable pub dirty_missing : Case
 dirty_missing = send_of (7 ∷ 7 ∷ []) 2 1 (Code E_PAR) 0
 
-dirty_numberless : Case
+unfoldable pub dirty_numberless : Case
 dirty_numberless = send_of (7 ∷ 7 ∷ []) 5 1 (Code E_PAR) 0
 
 -- ---- 02, request Nine: "how many bytes are over, or lacking (below zero), as one signed number, zero for an exact fit"
@@ -324,42 +321,42 @@ send_into bufsz lengths n answer u =
     (used 1 ∷ []) (seen (new 1 ∷ map (λ l. OK) lengths ++ answer ∷ []) [] [] (u ∷ []))
 
 -- a byte is lacking, it fits exactly, a byte is over; 28 bytes cost 32, and 29 cost 36
-one_lacking28 : Case
+unfoldable pub one_lacking28 : Case
 one_lacking28 = send_into 31 [] 28 (Code E_TMOUT) 0
 
-exactly28 : Case
+unfoldable pub exactly28 : Case
 exactly28 = send_into 32 [] 28 OK 32
 
-one_over28 : Case
+unfoldable pub one_over28 : Case
 one_over28 = send_into 33 [] 28 OK 32
 
-one_lacking29 : Case
+unfoldable pub one_lacking29 : Case
 one_lacking29 = send_into 35 [] 29 (Code E_TMOUT) 0
 
-exactly29 : Case
+unfoldable pub exactly29 : Case
 exactly29 = send_into 36 [] 29 OK 36
 
-one_over29 : Case
+unfoldable pub one_over29 : Case
 one_over29 = send_into 37 [] 29 OK 36
 
 -- bufsz 35 has bytes over for 28, bufsz 0 lacks some for any
-three_over : Case
+unfoldable pub three_over : Case
 three_over = send_into 35 [] 28 OK 32
 
-no_room : Case
+unfoldable pub no_room : Case
 no_room = send_into 0 [] 1 (Code E_TMOUT) 0
 
 -- seven of 28 leave 32 of bufsz 256: 28 fit exactly, for 29 four are lacking; of 255 one is lacking for 28
 abbrev seven_of28 : List ℕ
 seven_of28 = 28 ∷ 28 ∷ 28 ∷ 28 ∷ 28 ∷ 28 ∷ 28 ∷ []
 
-last_exactly : Case
+unfoldable pub last_exactly : Case
 last_exactly = send_into 256 seven_of28 28 OK 256
 
-last_lacking : Case
+unfoldable pub last_lacking : Case
 last_lacking = send_into 256 seven_of28 29 (Code E_TMOUT) 224
 
-last_byte_lacking : Case
+unfoldable pub last_byte_lacking : Case
 last_byte_lacking = send_into 255 seven_of28 28 (Code E_TMOUT) 224
 
 -- "the look at the end of each call ask[s] it too": a byte is stored, and task 1 waits with 29; once task 2 has received the byte, a byte is lacking, or it
@@ -370,10 +367,10 @@ looked_at bufsz ended u =
     (second ++ CreMbf (pos 0) (pos bufsz) (pos 32) ∷ SndMbf (pos 1) (pos 1) forever ∷ SndMbf (pos 1) (pos 29) forever ∷ RcvMbf (pos 1) forever ∷ [])
     (used 1 ∷ []) (seen (new 2 ∷ OK ∷ new 1 ∷ OK ∷ Waits ∷ new 1 ∷ []) ended ((2, message 1) ∷ []) (u ∷ []))
 
-still_lacking : Case
+unfoldable pub still_lacking : Case
 still_lacking = looked_at 35 [] 0
 
-now_exactly : Case
+unfoldable pub now_exactly : Case
 now_exactly = looked_at 36 ((1, E_OK) ∷ []) 36
 
 -- ---- inheritance
@@ -391,13 +388,13 @@ held = new 1 ∷ new 2 ∷ new 2 ∷ new 3 ∷ OK ∷ new 1 ∷ Waits ∷ OK ∷
 abbrev chain : List Call
 chain = holding (pos 3) ++ LocMtx (pos 1) forever ∷ StaTsk (pos 3) ∷ LocMtx (pos 2) (pos 1) ∷ []
 
-chain_raises : Case
+unfoldable pub chain_raises : Case
 chain_raises =
     case chain (current 2 ∷ current 1 ∷ current 3 ∷ [])
     (seen (held ++ Waits ∷ OK ∷ Waits ∷ []) ((1, E_TMOUT) ∷ []) [] (3 ∷ 3 ∷ 3 ∷ []))
 
 -- "C times out: A and B have 8."
-chain_lowers : Case
+unfoldable pub chain_lowers : Case
 chain_lowers =
     case (chain ++ Tick ∷ []) (current 2 ∷ current 1 ∷ current 3 ∷ [])
     (seen (held ++ Waits ∷ OK ∷ Waits ∷ OK ∷ []) ((1, E_TMOUT) ∷ (3, E_TMOUT) ∷ []) [] (8 ∷ 8 ∷ 3 ∷ []))
@@ -410,17 +407,17 @@ circle =
 abbrev in_circle : List Answer
 in_circle = held ++ OK ∷ Waits ∷ Waits ∷ Waits ∷ []
 
-circle_stands : Case
+unfoldable pub circle_stands : Case
 circle_stands = case circle (current 2 ∷ current 1 ∷ []) (seen in_circle ((1, E_TMOUT) ∷ []) [] (8 ∷ 8 ∷ []))
 
 -- "C (2) waits for 1: both 2."
-circle_raises : Case
+unfoldable pub circle_raises : Case
 circle_raises =
     case (circle ++ Tick ∷ LocMtx (pos 1) (pos 1) ∷ []) (current 2 ∷ current 1 ∷ [])
     (seen (in_circle ++ OK ∷ Waits ∷ []) ((1, E_TMOUT) ∷ (3, E_TMOUT) ∷ []) [] (2 ∷ 2 ∷ []))
 
 -- "C times out: both 8."
-circle_lowers : Case
+unfoldable pub circle_lowers : Case
 circle_lowers =
     case (circle ++ Tick ∷ LocMtx (pos 1) (pos 1) ∷ Tick ∷ []) (current 2 ∷ current 1 ∷ [])
     (seen (in_circle ++ OK ∷ Waits ∷ OK ∷ []) ((1, E_TMOUT) ∷ (3, E_TMOUT) ∷ (3, E_TMOUT) ∷ []) [] (8 ∷ 8 ∷ []))
@@ -436,14 +433,14 @@ equal_ready base =
     case (CreTsk (pos 8) ∷ StaTsk (pos 2) ∷ ChgPri (pos 0) base ∷ []) (current 1 ∷ runs ∷ [])
     (seen (new 2 ∷ OK ∷ OK ∷ []) [] [] (8 ∷ 2 ∷ []))
 
-not_raised : Case
+unfoldable pub not_raised : Case
 not_raised = equal_ready (pos 8)
 
-initial_again : Case
+unfoldable pub initial_again : Case
 initial_again = equal_ready (pos 0)
 
 -- or that of task 2, which is not its own until priorities are settled.
-equal_afterwards : Case
+unfoldable pub equal_afterwards : Case
 equal_afterwards =
     case (second ++ ChgPri (pos 0) (pos 9) ∷ []) (current 1 ∷ runs ∷ [])
     (seen (new 2 ∷ OK ∷ OK ∷ []) [] [] (9 ∷ 2 ∷ []))
@@ -458,24 +455,24 @@ inherited changes who =
     (current 1 ∷ runs ∷ []) (seen (new 1 ∷ OK ∷ new 2 ∷ OK ∷ Waits ∷ new 3 ∷ OK ∷ map (λ c. OK) changes) [] [] (4 ∷ who ∷ []))
 
 -- down, up, to the base that it has, to the initial one: it keeps its place
-kept_up : Case
+unfoldable pub kept_up : Case
 kept_up = inherited ((1, 10) ∷ (1, 6) ∷ (1, 6) ∷ (1, 0) ∷ []) 1
 
 -- raised to exactly its new base: it joins anew, though the mutex would keep it there
-raised_exactly : Case
+unfoldable pub raised_exactly : Case
 raised_exactly = inherited ((1, 4) ∷ []) 3
 
 -- then task 3 goes behind it, and its base falls below what the mutex keeps it at: equal before, not afterwards
-kept_up_afterwards : Case
+unfoldable pub kept_up_afterwards : Case
 kept_up_afterwards = inherited ((1, 4) ∷ (3, 4) ∷ (1, 10) ∷ []) 1
 
 -- the same from 2, so that its current priority changes too: it keeps its joining, and stands before task 3
-kept_up_lowered : Case
+unfoldable pub kept_up_lowered : Case
 kept_up_lowered = inherited ((1, 2) ∷ (3, 4) ∷ (1, 10) ∷ []) 1
 
 -- "A change caused by mutexes doesn't alter when a task joined": task 2 waits for task 1's mutex, and its base falls, so that task 1 has its own, 8, again, as task 3,
 -- which stands ready behind it
-holder_lowered : Case
+unfoldable pub holder_lowered : Case
 holder_lowered =
     case
     (CreMtx (pos 2) (pos 0) ∷ LocMtx (pos 1) forever ∷ CreTsk (pos 4) ∷ StaTsk (pos 2) ∷ LocMtx (pos 1) forever ∷ CreTsk (pos 8) ∷ StaTsk (pos 3)
@@ -488,10 +485,10 @@ under_ceiling base who =
     case (CreMtx (pos 3) (pos 4) ∷ LocMtx (pos 1) forever ∷ CreTsk (pos 4) ∷ StaTsk (pos 2) ∷ ChgPri (pos 0) base ∷ [])
     (current 1 ∷ runs ∷ []) (seen (new 1 ∷ OK ∷ new 2 ∷ OK ∷ OK ∷ []) [] [] (4 ∷ who ∷ []))
 
-ceiling_keeps_up : Case
+unfoldable pub ceiling_keeps_up : Case
 ceiling_keeps_up = under_ceiling (pos 10) 1
 
-ceiling_exactly : Case
+unfoldable pub ceiling_exactly : Case
 ceiling_exactly = under_ceiling (pos 4) 2
 
 -- Waits: task 1 has the only block of a pool with this attribute; task 2 (6) waits for it and holds mutex 1, of attribute 2, for which task 3 (5) waits; task 4 (5)
@@ -507,14 +504,14 @@ in_pool attribute base p first =
     ((1, Block 1) ∷ (first, Block 1) ∷ []) (p ∷ []))
 
 -- by priority
-pool_kept_up : Case
+unfoldable pub pool_kept_up : Case
 pool_kept_up = in_pool (pos 1) (pos 7) 5 2
 
-pool_exactly : Case
+unfoldable pub pool_exactly : Case
 pool_exactly = in_pool (pos 1) (pos 5) 5 4
 
 -- not raised: task 2 (5) waits before task 3 (6), until it has 6 too
-pool_not_raised : Case
+unfoldable pub pool_not_raised : Case
 pool_not_raised =
     case
     (CreMpf (pos 1) (pos 1) (pos 1) ∷ GetMpf (pos 1) forever ∷ CreTsk (pos 5) ∷ StaTsk (pos 2) ∷ GetMpf (pos 1) forever
@@ -523,13 +520,13 @@ pool_not_raised =
     (seen (new 1 ∷ OK ∷ new 2 ∷ OK ∷ Waits ∷ new 3 ∷ OK ∷ Waits ∷ OK ∷ OK ∷ []) ((3, E_OK) ∷ []) ((1, Block 1) ∷ (3, Block 1) ∷ []) (6 ∷ []))
 
 -- by arrival: it keeps its place either way, raised or not
-arrival_kept_up : Case
+unfoldable pub arrival_kept_up : Case
 arrival_kept_up = in_pool (pos 0) (pos 7) 5 2
 
-arrival_exactly : Case
+unfoldable pub arrival_exactly : Case
 arrival_exactly = in_pool (pos 0) (pos 5) 5 2
 
-arrival_not_raised : Case
+unfoldable pub arrival_not_raised : Case
 arrival_not_raised = in_pool (pos 0) (pos 3) 3 2
 
 -- Senders, by priority: task 2 (6) sends what does not fit, and holds mutex 1, of attribute 2, for which task 3 (5) waits; task 4 (5) sends behind it what fits. Task 1
@@ -542,10 +539,10 @@ in_senders base ended n =
     (current 2 ∷ used 1 ∷ [])
     (seen (new 1 ∷ new 1 ∷ new 2 ∷ OK ∷ OK ∷ Waits ∷ new 3 ∷ OK ∷ Waits ∷ new 4 ∷ OK ∷ Waits ∷ OK ∷ []) ended [] (5 ∷ n ∷ []))
 
-sender_kept_up : Case
+unfoldable pub sender_kept_up : Case
 sender_kept_up = in_senders (pos 7) [] 0
 
-sender_exactly : Case
+unfoldable pub sender_exactly : Case
 sender_exactly = in_senders (pos 5) ((4, E_OK) ∷ []) 8
 
 -- A circle: tasks 2 (6) and 3 (4) hold mutexes 1 and 2, of attribute 2, and wait for the other's; task 4 (2) waits for mutex 1 behind task 3, so that all three have 2.
@@ -558,23 +555,23 @@ in_queue_of_circle base first =
     (current 2 ∷ current 3 ∷ (λ x. queue_front x.kernel (queue locking 1)) ∷ [])
     (seen (new 1 ∷ new 2 ∷ new 2 ∷ new 3 ∷ new 4 ∷ OK ∷ OK ∷ OK ∷ OK ∷ Waits ∷ Waits ∷ OK ∷ Waits ∷ OK ∷ []) [] [] (2 ∷ 2 ∷ first ∷ []))
 
-circle_keeps_up : Case
+unfoldable pub circle_keeps_up : Case
 circle_keeps_up = in_queue_of_circle (pos 5) 3
 
-circle_exactly : Case
+unfoldable pub circle_exactly : Case
 circle_exactly = in_queue_of_circle (pos 2) 4
 
 -- ---- refusals
 
 -- "Unlock of another's mutex: -28."
-not_held : Case
+unfoldable pub not_held : Case
 not_held =
     case
     (second ++ CreMtx (pos 2) (pos 0) ∷ LocMtx (pos 1) forever ∷ CreMbf (pos 0) (pos 0) (pos 1) ∷ RcvMbf (pos 1) forever ∷ UnlMtx (pos 1) ∷ [])
     (current 1 ∷ []) (seen (new 2 ∷ OK ∷ new 1 ∷ OK ∷ new 1 ∷ Waits ∷ Code E_ILUSE ∷ []) [] [] (8 ∷ []))
 
 -- "Store of 1,023 or 1,025 bytes: -5."
-abbrev store_of : ℕ → Answer → Case
+abbrev pub store_of : ℕ → Answer → Case
 store_of n answer =
     record {
       calls = Tick ∷ [];
@@ -587,7 +584,7 @@ store_of n answer =
 
 -- ---- the table
 
-pub table : List Case
+unfoldable pub table : List Case
 table =
     no_message
     ∷ one_byte
@@ -663,304 +660,8 @@ abbrev pub AllHold : List Case → Type 0
 AllHold [] = Unit {0}
 AllHold (c ∷ cs) = (observed c ≡ c.seen) × AllHold cs
 
--- Each case by computing: its own name stands in the refusal of one that does not hold.
-no_message-holds : observed no_message ≡ no_message.seen
-unfolding compute observed no_message
-no_message-holds = refl
-
-one_byte-holds : observed one_byte ≡ one_byte.seen
-unfolding compute observed one_byte
-one_byte-holds = refl
-
-eighth_waits-holds : observed eighth_waits ≡ eighth_waits.seen
-unfolding compute observed eighth_waits
-eighth_waits-holds = refl
-
-too_small-holds : observed too_small ≡ too_small.seen
-unfolding compute observed too_small
-too_small-holds = refl
-
-just_fits-holds : observed just_fits ≡ just_fits.seen
-unfolding compute observed just_fits
-just_fits-holds = refl
-
-oldest_first-holds : observed oldest_first ≡ oldest_first.seen
-unfolding compute observed oldest_first
-oldest_first-holds = refl
-
-handed_over-holds : observed handed_over ≡ handed_over.seen
-unfolding compute observed handed_over
-handed_over-holds = refl
-
-few_bytes-holds : observed few_bytes ≡ few_bytes.seen
-unfolding compute observed few_bytes
-few_bytes-holds = refl
-
-longest_message-holds : observed longest_message ≡ longest_message.seen
-unfolding compute observed longest_message
-longest_message-holds = refl
-
-timeouts-holds : observed timeouts ≡ timeouts.seen
-unfolding compute observed timeouts
-timeouts-holds = refl
-
-ceilings-holds : observed ceilings ≡ ceilings.seen
-unfolding compute observed ceilings
-ceilings-holds = refl
-
-no_passing-holds : observed no_passing ≡ no_passing.seen
-unfolding compute observed no_passing
-no_passing-holds = refl
-
-last_drained-holds : observed last_drained ≡ last_drained.seen
-unfolding compute observed last_drained
-last_drained-holds = refl
-
-sender_deleted-holds : observed sender_deleted ≡ sender_deleted.seen
-unfolding compute observed sender_deleted
-sender_deleted-holds = refl
-
-next_dirty-holds : observed next_dirty ≡ next_dirty.seen
-unfolding compute observed next_dirty
-next_dirty-holds = refl
-
-last_dirty-holds : observed last_dirty ≡ last_dirty.seen
-unfolding compute observed last_dirty
-last_dirty-holds = refl
-
-dirty_behind31-holds : observed dirty_behind31 ≡ dirty_behind31.seen
-unfolding compute observed dirty_behind31
-dirty_behind31-holds = refl
-
-clean_tail-holds : observed clean_tail ≡ clean_tail.seen
-unfolding compute observed clean_tail
-clean_tail-holds = refl
-
-no_tail-holds : observed no_tail ≡ no_tail.seen
-unfolding compute observed no_tail
-no_tail-holds = refl
-
-beyond_message-holds : observed beyond_message ≡ beyond_message.seen
-unfolding compute observed beyond_message
-beyond_message-holds = refl
-
-too_long-holds : observed too_long ≡ too_long.seen
-unfolding compute observed too_long
-too_long-holds = refl
-
-too_long_clean-holds : observed too_long_clean ≡ too_long_clean.seen
-unfolding compute observed too_long_clean
-too_long_clean-holds = refl
-
-too_long_missing-holds : observed too_long_missing ≡ too_long_missing.seen
-unfolding compute observed too_long_missing
-too_long_missing-holds = refl
-
-dirty_missing-holds : observed dirty_missing ≡ dirty_missing.seen
-unfolding compute observed dirty_missing
-dirty_missing-holds = refl
-
-dirty_numberless-holds : observed dirty_numberless ≡ dirty_numberless.seen
-unfolding compute observed dirty_numberless
-dirty_numberless-holds = refl
-
-one_lacking28-holds : observed one_lacking28 ≡ one_lacking28.seen
-unfolding compute observed one_lacking28
-one_lacking28-holds = refl
-
-exactly28-holds : observed exactly28 ≡ exactly28.seen
-unfolding compute observed exactly28
-exactly28-holds = refl
-
-one_over28-holds : observed one_over28 ≡ one_over28.seen
-unfolding compute observed one_over28
-one_over28-holds = refl
-
-one_lacking29-holds : observed one_lacking29 ≡ one_lacking29.seen
-unfolding compute observed one_lacking29
-one_lacking29-holds = refl
-
-exactly29-holds : observed exactly29 ≡ exactly29.seen
-unfolding compute observed exactly29
-exactly29-holds = refl
-
-one_over29-holds : observed one_over29 ≡ one_over29.seen
-unfolding compute observed one_over29
-one_over29-holds = refl
-
-three_over-holds : observed three_over ≡ three_over.seen
-unfolding compute observed three_over
-three_over-holds = refl
-
-no_room-holds : observed no_room ≡ no_room.seen
-unfolding compute observed no_room
-no_room-holds = refl
-
-last_exactly-holds : observed last_exactly ≡ last_exactly.seen
-unfolding compute observed last_exactly
-last_exactly-holds = refl
-
-last_lacking-holds : observed last_lacking ≡ last_lacking.seen
-unfolding compute observed last_lacking
-last_lacking-holds = refl
-
-last_byte_lacking-holds : observed last_byte_lacking ≡ last_byte_lacking.seen
-unfolding compute observed last_byte_lacking
-last_byte_lacking-holds = refl
-
-still_lacking-holds : observed still_lacking ≡ still_lacking.seen
-unfolding compute observed still_lacking
-still_lacking-holds = refl
-
-now_exactly-holds : observed now_exactly ≡ now_exactly.seen
-unfolding compute observed now_exactly
-now_exactly-holds = refl
-
-chain_raises-holds : observed chain_raises ≡ chain_raises.seen
-unfolding compute observed chain_raises
-chain_raises-holds = refl
-
-chain_lowers-holds : observed chain_lowers ≡ chain_lowers.seen
-unfolding compute observed chain_lowers
-chain_lowers-holds = refl
-
-circle_stands-holds : observed circle_stands ≡ circle_stands.seen
-unfolding compute observed circle_stands
-circle_stands-holds = refl
-
-circle_raises-holds : observed circle_raises ≡ circle_raises.seen
-unfolding compute observed circle_raises
-circle_raises-holds = refl
-
-circle_lowers-holds : observed circle_lowers ≡ circle_lowers.seen
-unfolding compute observed circle_lowers
-circle_lowers-holds = refl
-
-not_raised-holds : observed not_raised ≡ not_raised.seen
-unfolding compute observed not_raised
-not_raised-holds = refl
-
-initial_again-holds : observed initial_again ≡ initial_again.seen
-unfolding compute observed initial_again
-initial_again-holds = refl
-
-equal_afterwards-holds : observed equal_afterwards ≡ equal_afterwards.seen
-unfolding compute observed equal_afterwards
-equal_afterwards-holds = refl
-
-kept_up-holds : observed kept_up ≡ kept_up.seen
-unfolding compute observed kept_up
-kept_up-holds = refl
-
-raised_exactly-holds : observed raised_exactly ≡ raised_exactly.seen
-unfolding compute observed raised_exactly
-raised_exactly-holds = refl
-
-kept_up_afterwards-holds : observed kept_up_afterwards ≡ kept_up_afterwards.seen
-unfolding compute observed kept_up_afterwards
-kept_up_afterwards-holds = refl
-
-kept_up_lowered-holds : observed kept_up_lowered ≡ kept_up_lowered.seen
-unfolding compute observed kept_up_lowered
-kept_up_lowered-holds = refl
-
-holder_lowered-holds : observed holder_lowered ≡ holder_lowered.seen
-unfolding compute observed holder_lowered
-holder_lowered-holds = refl
-
-ceiling_keeps_up-holds : observed ceiling_keeps_up ≡ ceiling_keeps_up.seen
-unfolding compute observed ceiling_keeps_up
-ceiling_keeps_up-holds = refl
-
-ceiling_exactly-holds : observed ceiling_exactly ≡ ceiling_exactly.seen
-unfolding compute observed ceiling_exactly
-ceiling_exactly-holds = refl
-
-pool_kept_up-holds : observed pool_kept_up ≡ pool_kept_up.seen
-unfolding compute observed pool_kept_up
-pool_kept_up-holds = refl
-
-pool_exactly-holds : observed pool_exactly ≡ pool_exactly.seen
-unfolding compute observed pool_exactly
-pool_exactly-holds = refl
-
-pool_not_raised-holds : observed pool_not_raised ≡ pool_not_raised.seen
-unfolding compute observed pool_not_raised
-pool_not_raised-holds = refl
-
-arrival_kept_up-holds : observed arrival_kept_up ≡ arrival_kept_up.seen
-unfolding compute observed arrival_kept_up
-arrival_kept_up-holds = refl
-
-arrival_exactly-holds : observed arrival_exactly ≡ arrival_exactly.seen
-unfolding compute observed arrival_exactly
-arrival_exactly-holds = refl
-
-arrival_not_raised-holds : observed arrival_not_raised ≡ arrival_not_raised.seen
-unfolding compute observed arrival_not_raised
-arrival_not_raised-holds = refl
-
-sender_kept_up-holds : observed sender_kept_up ≡ sender_kept_up.seen
-unfolding compute observed sender_kept_up
-sender_kept_up-holds = refl
-
-sender_exactly-holds : observed sender_exactly ≡ sender_exactly.seen
-unfolding compute observed sender_exactly
-sender_exactly-holds = refl
-
-circle_keeps_up-holds : observed circle_keeps_up ≡ circle_keeps_up.seen
-unfolding compute observed circle_keeps_up
-circle_keeps_up-holds = refl
-
-circle_exactly-holds : observed circle_exactly ≡ circle_exactly.seen
-unfolding compute observed circle_exactly
-circle_exactly-holds = refl
-
-not_held-holds : observed not_held ≡ not_held.seen
-unfolding compute observed not_held
-not_held-holds = refl
-
-store_of-holds : AllHold (store_of (pred store_bytes) (Code E_SYS) ∷ store_of store_bytes OK ∷ store_of (suc store_bytes) (Code E_SYS) ∷ [])
-unfolding compute observed
-store_of-holds = (refl, (refl, (refl, tt)))
-
-pub cases : AllHold table
-unfolding table
-cases =
-    (no_message-holds, (one_byte-holds, (eighth_waits-holds, (too_small-holds, (just_fits-holds, (oldest_first-holds, (handed_over-holds, (few_bytes-holds, (longest_message-holds, (timeouts-holds, (ceilings-holds, (no_passing-holds, (last_drained-holds, (sender_deleted-holds, (next_dirty-holds, (last_dirty-holds, (dirty_behind31-holds, (clean_tail-holds, (no_tail-holds, (beyond_message-holds, (too_long-holds, (too_long_clean-holds, (too_long_missing-holds, (dirty_missing-holds, (dirty_numberless-holds, (one_lacking28-holds, (exactly28-holds, (one_over28-holds, (one_lacking29-holds, (exactly29-holds, (one_over29-holds, (three_over-holds, (no_room-holds, (last_exactly-holds, (last_lacking-holds, (last_byte_lacking-holds, (still_lacking-holds, (now_exactly-holds, (chain_raises-holds, (chain_lowers-holds, (circle_stands-holds, (circle_raises-holds, (circle_lowers-holds, (not_raised-holds, (initial_again-holds, (equal_afterwards-holds, (kept_up-holds, (raised_exactly-holds, (kept_up_afterwards-holds, (kept_up_lowered-holds, (holder_lowered-holds, (ceiling_keeps_up-holds, (ceiling_exactly-holds, (pool_kept_up-holds, (pool_exactly-holds, (pool_not_raised-holds, (arrival_kept_up-holds, (arrival_exactly-holds, (arrival_not_raised-holds, (sender_kept_up-holds, (sender_exactly-holds, (circle_keeps_up-holds, (circle_exactly-holds, (not_held-holds, store_of-holds))))))))))))))))))))))))))))))))))))))))))))))))))))))))))))))))
-
-pub rooms-hold : RoomsHold
-unfolding compute
-rooms-hold = refl
-
-pub ends-hold : EndsHold
-ends-hold = refl
-
-pub bits-hold : BitsHold
-unfolding compute
-bits-hold = refl
-
-pub wrong-bits-fail : WrongBitsFail
-unfolding compute
-wrong-bits-fail = refl
-
--- the fresh state is valid
-pub fresh-valid : valid fresh_lent ≡ true
-unfolding compute
-fresh-valid = refl
-
 -- ---- bytes
-
--- "Whole example." A tick, a get_mpf of a pool that is not there, and a cut record
-pub whole_example : script_log (0x40 ∷ 0x32 ∷ 0x01 ∷ 0x00 ∷ 0x00 ∷ 0x00 ∷ 0x00 ∷ 0x00 ∷ 0x00 ∷ 0x00 ∷ 0x22 ∷ [])
-    ≡ 0x80 ∷ 0x00 ∷ 0x00 ∷ 0x00 ∷ 0x00 ∷ 0x8F ∷ 0x01 ∷ 0x80 ∷ 0xD6 ∷ 0xFF ∷ 0xFF ∷ 0xFF ∷ 0x8F ∷ 0x01 ∷ 0x8E ∷ 0x0A ∷ 0x00 ∷ 0x00 ∷ 0x00 ∷ []
-unfolding script_log
-whole_example = refl
 
 -- "Order 1 below logs 80 FB FF FF FF 8F 00", whatever is lent
 abbrev pub order_one_log : List ℕ
 order_one_log = 0x80 ∷ 0xFB ∷ 0xFF ∷ 0xFF ∷ 0xFF ∷ 0x8F ∷ 0x00 ∷ []
-
-pub not_valid_logs : (a : Areas) → not_valid a ≡ record { answer = Code E_SYS; written = length order_one_log; areas = with_log a order_one_log }
-unfolding compute
-not_valid_logs a = refl

@@ -5,7 +5,7 @@ use Rattle.model.specs.declared.call.Call.{Call}
 use Rattle.model.specs.declared.call.Call.TheVariants.{CreTsk, DelTsk, StaTsk, ExtTsk, TerTsk, ChgPri, CreMtx, DelMtx, LocMtx, UnlMtx, CreMbf, DelMbf, SndMbf, RcvMbf, CreMpf, DelMpf, GetMpf, RelMpf, Tick}
 use Rattle.model.specs.declared.call.Read.{Read}
 use Rattle.model.specs.declared.call.Read.TheVariants.{Record, Stop}
-use Rattle.model.specs.Cases.{fresh-valid}
+use Rattle.model.proofs.Cases.{fresh-valid}
 use Rattle.model.proofs.ByCase.{step-valid, step-refused, step-done, lent-untouched, record-no-area, record-too-long, record-end, record-stops, record-runs, script-too-long, script-runs}
 use Rattle.state.proofs.WordLaws.{Sized, represents}
 use Rattle.state.proofs.LentLaws.{lent-step}
