@@ -1,5 +1,6 @@
 -- The same on lent words, through what the public functions promise: `lent_step` for a call, `lent_record` for the record at a place of a script.
-use Rattle.model.proofs.Terms.{ℕ, cond, Option, none, some, List, [], ◌∷◌, ◌++◌, foldl, length, eqb, ltb, log_bytes, script_bytes, store_bytes, outbox_bytes, zeros, fresh, Lent, words, FieldsFit, Areas, lent, lent_step, lent_record, progress_answer, Ledger, fresh_ledger, entered}
+use Rattle.std.specs.Prelude.{◌∷◌, ◌++◌}
+use Rattle.model.proofs.Terms.{ℕ, cond, Option, none, some, List, [], foldl, length, eqb, ltb, log_bytes, script_bytes, store_bytes, outbox_bytes, zeros, fresh, Lent, words, FieldsFit, Areas, lent, lent_step, lent_record, progress_answer, Ledger, fresh_ledger, entered}
 use Rattle.model.specs.declared.call.Answer.{Answer}
 use Rattle.preservation.specs.Entries.{Entry, Every, outcome, entries_from}
 use Rattle.ledger.specs.Statements.{ended_codes}

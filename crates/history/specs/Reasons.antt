@@ -1,6 +1,7 @@
 -- Demand 3's last sentence: "across each call of the list a task's priority differs only if the call changed the base priority, the mutexes or the wait of that task,
 -- or of one linked to it, before or after, by a chain of waits on inheritance mutexes." All of it as the ledger has it.
-use Rattle.model.proofs.Terms.{ℕ, ◌≡◌, ◌≢◌, ◌⊎◌, cond, Option, none, some, List, get_or, eqb, leb, mutexes, ◌!◌, up_to, select, Queue, locking, Linked, holder_awaited, Ledger, standing, ledger_facts}
+use Rattle.std.specs.Prelude.{◌≡◌, ◌≢◌, ◌⊎◌}
+use Rattle.model.proofs.Terms.{ℕ, cond, Option, none, some, List, get_or, eqb, leb, mutexes, ◌!◌, up_to, select, Queue, locking, Linked, holder_awaited, Ledger, standing, ledger_facts}
 
 -- a task that the ledger has
 abbrev pub Has : Ledger → ℕ → Type 0

@@ -1,5 +1,6 @@
 -- A script run record by record on lent areas, through what the public function promises: no more than one record's log is ever held.
-use Rattle.model.proofs.Terms.{ℕ, zero, suc, List, [], ◌++◌, take, Areas, Went, lent_record}
+use Rattle.std.specs.Prelude.{◌++◌}
+use Rattle.model.proofs.Terms.{ℕ, zero, suc, List, [], take, Areas, Went, lent_record}
 use Rattle.model.specs.declared.call.Progress.TheVariants.{Answered, Over, NoArea}
 
 -- What is left: all that was written, one log behind the other, and the areas at the end.

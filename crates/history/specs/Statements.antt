@@ -1,5 +1,6 @@
 -- Demand 3: what is to be proved, each as a type; `Theorems` proves them.
-use Rattle.model.proofs.Terms.{ℕ, ◌≤◌, ◌<◌, ◌≡◌, ◌≢◌, none, some, cond, List, [], ◌∷◌, ◌++◌, length, get_or, ltb, log_bytes, script_bytes, tasks, ◌!◌, Queue, ready, locking, queue_order, running, From, Valid, word_count, words, fresh_lent, step, Ran, run_from, run, run_script, Areas, returned, lent_step, MutexEntry, Ledger, join, standing, ledger_priorities, ledger_order, ledger_runs}
+use Rattle.std.specs.Prelude.{◌≤◌, ◌<◌, ◌≡◌, ◌≢◌, ◌∷◌, ◌++◌}
+use Rattle.model.proofs.Terms.{ℕ, none, some, cond, List, [], length, get_or, ltb, log_bytes, script_bytes, tasks, ◌!◌, Queue, ready, locking, queue_order, running, From, Valid, word_count, words, fresh_lent, step, Ran, run_from, run, run_script, Areas, returned, lent_step, MutexEntry, Ledger, join, standing, ledger_priorities, ledger_order, ledger_runs}
 use Rattle.model.specs.declared.call.Call.{Call}
 use Rattle.preservation.specs.Entries.{Entry, AllFit, entries_of}
 use Rattle.preservation.specs.Statements.{ValidAreas}

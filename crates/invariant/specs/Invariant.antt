@@ -5,7 +5,8 @@
 --
 -- The clauses are grouped by the part of the kernel that they speak of, and ask of a task's row what its wait means there. So an act on one kind of object has
 -- to show nothing of the others, and a kind that is added adds a part.
-use Rattle.model.proofs.Terms.{ℕ, suc, ◌*◌, ◌-◌, ◌≤◌, ◌<◌, ◌≡◌, ◌≢◌, ◌⊎◌, true, List, map, length, drop, tasks, priorities, mutexes, buffers, pools, blocks, message_bytes, region_bytes, block_bytes, pool_bytes, store_bytes, outbox_bytes, longest, endless, ◌!◌, up_to, zeros, sum, member, absent, dormant, ready, locking, sending, receiving, getting, ceilinged, Kernel, Tasks, Mutexes, Buffers, Pools, slot, World, part, region, mutex_attributes, buffer_attributes, pool_attributes, Each, From, TaskLists, MutexLists, BufferLists, PoolLists, Layout, Priorities, Bitmap}
+use Rattle.std.specs.Prelude.{◌*◌, ◌-◌, ◌≤◌, ◌<◌, ◌≡◌, ◌≢◌, ◌⊎◌}
+use Rattle.model.proofs.Terms.{ℕ, suc, true, List, map, length, drop, tasks, priorities, mutexes, buffers, pools, blocks, message_bytes, region_bytes, block_bytes, pool_bytes, store_bytes, outbox_bytes, longest, endless, ◌!◌, up_to, zeros, sum, member, absent, dormant, ready, locking, sending, receiving, getting, ceilinged, Kernel, Tasks, Mutexes, Buffers, Pools, slot, World, part, region, mutex_attributes, buffer_attributes, pool_attributes, Each, From, TaskLists, MutexLists, BufferLists, PoolLists, Layout, Priorities, Bitmap}
 use Rattle.queue.proofs.Listing.{Listing}
 use Rattle.invariant.specs.Rows.{TaskRow, MutexRow, BufferRow, PoolRow, task_rows, mutex_rows, buffer_rows, pool_rows}
 

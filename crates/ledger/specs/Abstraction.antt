@@ -1,6 +1,7 @@
 -- The ledger that is read off a kernel, whatever calls led there. So each act of a call has one equation to meet: that the ledger which is fed the call is the one read
 -- off the kernel after it.
-use Rattle.model.proofs.Terms.{ℕ, suc, cond, Option, none, some, List, [], ◌∷◌, map, length, eqb, leb, tasks, mutexes, buffers, pools, ◌!◌, count_from, Queue, queue, ready, Kernel, facts, TaskEntry, MutexEntry, Ledger}
+use Rattle.std.specs.Prelude.{◌∷◌}
+use Rattle.model.proofs.Terms.{ℕ, suc, cond, Option, none, some, List, [], map, length, eqb, leb, tasks, mutexes, buffers, pools, ◌!◌, count_from, Queue, queue, ready, Kernel, facts, TaskEntry, MutexEntry, Ledger}
 use Rattle.invariant.specs.Rows.{TaskRow, MutexRow, BufferRow, PoolRow, task_rows, mutex_rows, buffer_rows, pool_rows}
 
 -- a list made number by number from 0

@@ -1,5 +1,6 @@
 -- One call and the ledger: what is to be proved, each as a type; `Theorems` proves them. `history` has demand 3 from them.
-use Rattle.model.proofs.Terms.{ℕ, ℤ, ◌≡◌, List, map, Ended, Kernel, facts, queue_order, running, Queue, Lent, fresh, Valid, step, FieldsFit, fresh_ledger, ledger_facts, ledger_priorities, ledger_order, ledger_runs, entered}
+use Rattle.std.specs.Prelude.{◌≡◌}
+use Rattle.model.proofs.Terms.{ℕ, ℤ, List, map, Ended, Kernel, facts, queue_order, running, Queue, Lent, fresh, Valid, step, FieldsFit, fresh_ledger, ledger_facts, ledger_priorities, ledger_order, ledger_runs, entered}
 use Rattle.model.specs.declared.call.Call.{Call}
 use Rattle.ledger.specs.Abstraction.{ledger_of}
 

@@ -1,5 +1,6 @@
 -- "Each record's log, at most 512 bytes": how long logs are. What is to be proved, each as a type; `Theorems` proves them. No state has to be valid.
-use Rattle.model.proofs.Terms.{ℕ, ◌+◌, ◌*◌, ◌≤◌, List, map, length, leb, tasks, message_bytes, log_bytes, sum, select, occurrences, locking, Kernel, Lent, Delivery, Nothing, Message, Block, Ended, Outcome, step, outcome_log, run, run_script, script_log, Areas, lent_step, lent_record}
+use Rattle.std.specs.Prelude.{◌+◌, ◌*◌, ◌≤◌}
+use Rattle.model.proofs.Terms.{ℕ, List, map, length, leb, tasks, message_bytes, log_bytes, sum, select, occurrences, locking, Kernel, Lent, Delivery, Nothing, Message, Block, Ended, Outcome, step, outcome_log, run, run_script, script_log, Areas, lent_step, lent_record}
 use Rattle.model.specs.declared.call.Call.{Call}
 
 -- ---- the log of one record

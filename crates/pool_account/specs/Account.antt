@@ -1,7 +1,8 @@
 -- An account of the pools, "blocks given" and "blocks taken back", kept from the calls, their answers and the ended waits with what they
 -- deliver, and from nothing else.
+use Rattle.std.specs.Prelude.{◌+◌, ◌∷◌}
 use Rattle.std.proofs.Math.Option.{map}
-use Rattle.model.proofs.Terms.{ℕ, ◌+◌, cond, Option, none, some, List, [], ◌∷◌, pos, negsuc, eqb, number, Delivery, Ended, Nothing, Message, Block}
+use Rattle.model.proofs.Terms.{ℕ, cond, Option, none, some, List, [], pos, negsuc, eqb, number, Delivery, Ended, Nothing, Message, Block}
 use Rattle.model.specs.declared.call.Call.{Call}
 use Rattle.model.specs.declared.call.Call.TheVariants.{CreTsk, DelTsk, StaTsk, ExtTsk, TerTsk, ChgPri, CreMtx, DelMtx, LocMtx, UnlMtx, CreMbf, DelMbf, SndMbf, RcvMbf, CreMpf, DelMpf, GetMpf, RelMpf, Tick}
 use Rattle.model.specs.declared.call.Answer.{Answer}

@@ -1,6 +1,7 @@
 -- "Since a pool's creation, blocks given minus blocks taken back, plus free ones, is its count": what is to be proved, each as a type;
 -- `Theorems` proves them.
-use Rattle.model.proofs.Terms.{ℕ, ◌+◌, ◌-◌, ◌≤◌, ◌≡◌, Option, none, some, List, [], ◌∷◌, map, pools, ◌!◌, up_to, occurrences, Pools, slot, Lent, Each, Valid, fresh_lent, Outcome, step, run}
+use Rattle.std.specs.Prelude.{◌+◌, ◌-◌, ◌≤◌, ◌≡◌, ◌∷◌}
+use Rattle.model.proofs.Terms.{ℕ, Option, none, some, List, [], map, pools, ◌!◌, up_to, occurrences, Pools, slot, Lent, Each, Valid, fresh_lent, Outcome, step, run}
 use Rattle.model.specs.declared.call.Call.{Call}
 use Rattle.preservation.specs.Entries.{Entry, AllFit, outcome, next, after, entries_of}
 use Rattle.pool_account.specs.Account.{PoolAccount, Account, block_in, blocks_in, accounted, handed_out}

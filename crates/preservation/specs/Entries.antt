@@ -1,5 +1,6 @@
 -- Lists of calls, each with the bytes that are handed over with it; and a script's records as such a list.
-use Rattle.model.proofs.Terms.{ℕ, zero, suc, true, false, List, [], ◌∷◌, foldl, length, leb, Lent, Outcome, step, read_record, record_message, FieldsFit}
+use Rattle.std.specs.Prelude.{◌∷◌}
+use Rattle.model.proofs.Terms.{ℕ, zero, suc, true, false, List, [], foldl, length, leb, Lent, Outcome, step, read_record, record_message, FieldsFit}
 use Rattle.model.specs.declared.call.Call.{Call}
 use Rattle.model.specs.declared.call.Read.TheVariants.{Record, Stop}
 

@@ -1,6 +1,7 @@
 -- Demand 2's last sentence: "The fresh state is sound and every call keeps it so." What is to be proved, each as a type; `Theorems` proves them.
 -- The state and its areas are valid by the statements of `Valid`, which agree with the test that the kernel makes.
-use Rattle.model.proofs.Terms.{ℕ, ◌≤◌, ◌≡◌, ◌↔◌, true, false, none, List, foldl, tasks, buffers, store_bytes, outbox_bytes, zeros, up_to, fresh, Lent, World, begun, serve, first_fits, store_first, drain, first_refusal, refusals, perform, Each, Valid, valid, words, fresh_lent, step, read_record, FieldsFit, run, run_script, Areas, is_valid, lent_step, lent_record}
+use Rattle.std.specs.Prelude.{◌≤◌, ◌≡◌, ◌↔◌}
+use Rattle.model.proofs.Terms.{ℕ, true, false, none, List, foldl, tasks, buffers, store_bytes, outbox_bytes, zeros, up_to, fresh, Lent, World, begun, serve, first_fits, store_first, drain, first_refusal, refusals, perform, Each, Valid, valid, words, fresh_lent, step, read_record, FieldsFit, run, run_script, Areas, is_valid, lent_step, lent_record}
 use Rattle.model.specs.declared.call.Call.{Call}
 use Rattle.model.specs.declared.call.Cursor.{Cursor}
 use Rattle.model.specs.declared.call.Read.TheVariants.{Record}

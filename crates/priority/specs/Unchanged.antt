@@ -1,5 +1,6 @@
 -- Demand 3's last sentence over any two facts, one before and one after: what of a task is as it was, and whose priority then is. Assumes nothing.
-use Rattle.model.proofs.Terms.{ℕ, suc, ◌≤◌, ◌≡◌, cond, Option, none, some, length, eqb, leb, tasks, ◌!◌, Queue, queue, locking, Facts, Linked, holder_awaited, effective}
+use Rattle.std.specs.Prelude.{◌≤◌, ◌≡◌}
+use Rattle.model.proofs.Terms.{ℕ, suc, cond, Option, none, some, length, eqb, leb, tasks, ◌!◌, Queue, queue, locking, Facts, Linked, holder_awaited, effective}
 
 -- "A task's wait is the line it stands in, the ready line apart."
 unfoldable pub wait_of : Facts → ℕ → Option Queue
