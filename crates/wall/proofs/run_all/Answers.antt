@@ -1,6 +1,5 @@
 -- `run_all` meets its contract: after each record, what more records leave is what they leave from there on. Assumes nothing.
 use borrow.Author.Rules.{rules}
-use Prim.Native.Nat.{◌-◌}
 use mathlib.Core.Path.{refl}
 use Rattle.wall.proofs.Ending.{at_first, goes_on, ends, all_done}
 use Rattle.wall.proofs.run_all.Goals as goal
