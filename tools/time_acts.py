@@ -23,7 +23,14 @@ ghost use Rattle.order.specs.Order.{Tasks};
 use model::number::{BufferNumber, MaybeBuffer, MaybeMutex, MaybeTask, MutexNumber, TaskNumber};
 
 #[unsafe(no_mangle)]
-pub extern "C" fn timing_end_wait(state: &mut [u32], outbox: &mut [u8], log: &mut [u8], at: usize, t: u32, code: i32) -> usize
+pub extern "C" fn timing_end_wait(
+    state: &mut [u32],
+    outbox: &mut [u8],
+    log: &mut [u8],
+    at: usize,
+    t: u32,
+    code: i32,
+) -> usize
     requires { length state.old ≡ word_count }
 {
     match TaskNumber::from_word(t) {
@@ -33,7 +40,13 @@ pub extern "C" fn timing_end_wait(state: &mut [u32], outbox: &mut [u8], log: &mu
 }
 
 #[unsafe(no_mangle)]
-pub extern "C" fn timing_release(state: &mut [u32], outbox: &mut [u8], log: &mut [u8], at: usize, m: u32) -> usize
+pub extern "C" fn timing_release(
+    state: &mut [u32],
+    outbox: &mut [u8],
+    log: &mut [u8],
+    at: usize,
+    m: u32,
+) -> usize
     requires { length state.old ≡ word_count }
 {
     match MutexNumber::from_word(m) {
@@ -43,7 +56,13 @@ pub extern "C" fn timing_release(state: &mut [u32], outbox: &mut [u8], log: &mut
 }
 
 #[unsafe(no_mangle)]
-pub extern "C" fn timing_release_settled(state: &mut [u32], outbox: &mut [u8], log: &mut [u8], at: usize, m: u32) -> usize
+pub extern "C" fn timing_release_settled(
+    state: &mut [u32],
+    outbox: &mut [u8],
+    log: &mut [u8],
+    at: usize,
+    m: u32,
+) -> usize
     requires state_len { length state.old ≡ word_count }
     requires priorities { Priorities (kernel state.old) }
     requires bitmap { Bitmap (kernel state.old) }
@@ -56,7 +75,13 @@ pub extern "C" fn timing_release_settled(state: &mut [u32], outbox: &mut [u8], l
 }
 
 #[unsafe(no_mangle)]
-pub extern "C" fn timing_become_dormant(state: &mut [u32], outbox: &mut [u8], log: &mut [u8], at: usize, t: u32) -> usize
+pub extern "C" fn timing_become_dormant(
+    state: &mut [u32],
+    outbox: &mut [u8],
+    log: &mut [u8],
+    at: usize,
+    t: u32,
+) -> usize
     requires { length state.old ≡ word_count }
 {
     match TaskNumber::from_word(t) {
@@ -66,7 +91,13 @@ pub extern "C" fn timing_become_dormant(state: &mut [u32], outbox: &mut [u8], lo
 }
 
 #[unsafe(no_mangle)]
-pub extern "C" fn timing_tick_task(state: &mut [u32], outbox: &mut [u8], log: &mut [u8], at: usize, t: u32) -> usize
+pub extern "C" fn timing_tick_task(
+    state: &mut [u32],
+    outbox: &mut [u8],
+    log: &mut [u8],
+    at: usize,
+    t: u32,
+) -> usize
     requires { length state.old ≡ word_count }
 {
     match TaskNumber::from_word(t) {
@@ -76,7 +107,12 @@ pub extern "C" fn timing_tick_task(state: &mut [u32], outbox: &mut [u8], log: &m
 }
 
 #[unsafe(no_mangle)]
-pub extern "C" fn timing_queue_order(state: &[u32], place: u32, object: u32, order: &mut [u32]) -> usize
+pub extern "C" fn timing_queue_order(
+    state: &[u32],
+    place: u32,
+    object: u32,
+    order: &mut [u32],
+) -> usize
     requires state_len { length state.now ≡ word_count }
     requires order_len { length order.old ≡ tasks }
 {
@@ -84,7 +120,14 @@ pub extern "C" fn timing_queue_order(state: &[u32], place: u32, object: u32, ord
 }
 
 #[unsafe(no_mangle)]
-pub extern "C" fn timing_end_waits(state: &mut [u32], outbox: &mut [u8], log: &mut [u8], at: usize, order: &[u32], code: i32) -> usize
+pub extern "C" fn timing_end_waits(
+    state: &mut [u32],
+    outbox: &mut [u8],
+    log: &mut [u8],
+    at: usize,
+    order: &[u32],
+    code: i32,
+) -> usize
     requires state_len { length state.old ≡ word_count }
     requires tasks { Tasks order.now }
 {
@@ -102,7 +145,13 @@ pub extern "C" fn timing_take_oldest(state: &mut [u32], store: &mut [u8], b: u32
 }
 
 #[unsafe(no_mangle)]
-pub extern "C" fn timing_drain(state: &mut [u32], store: &mut [u8], outbox: &mut [u8], log: &mut [u8], at: usize) -> usize
+pub extern "C" fn timing_drain(
+    state: &mut [u32],
+    store: &mut [u8],
+    outbox: &mut [u8],
+    log: &mut [u8],
+    at: usize,
+) -> usize
     requires { length state.old ≡ word_count }
 {
     transfer::drain::drain(state, store, outbox, log, at)

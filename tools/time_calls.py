@@ -33,7 +33,14 @@ use script::reader::{message, read_record};
 
 // Answers how many bytes of log were written; the place goes on to the next record.
 #[unsafe(no_mangle)]
-pub extern "C" fn timing_checked(state: &mut [u32], store: &mut [u8], outbox: &mut [u8], log: &mut [u8], script: &[u8], at: &mut usize) -> usize {
+pub extern "C" fn timing_checked(
+    state: &mut [u32],
+    store: &mut [u8],
+    outbox: &mut [u8],
+    log: &mut [u8],
+    script: &[u8],
+    at: &mut usize,
+) -> usize {
     let ran = run_record(state, store, outbox, log, script, Cursor { at: *at });
     let progress = ran.progress;
     if let Progress::Answered { answer: _, next } = progress {
@@ -61,7 +68,15 @@ pub extern "C" fn timing_unchecked(
     let Read::Record { call, next } = read_record(script, place) else {
         return 0;
     };
-    let step = valid_step(state, store, outbox, log, caller, call, message(script, place));
+    let step = valid_step(
+        state,
+        store,
+        outbox,
+        log,
+        caller,
+        call,
+        message(script, place),
+    );
     *at = next.at;
     *written = step.written;
     let next_runs = step.runs;
@@ -77,7 +92,12 @@ pub extern "C" fn timing_read(script: &[u8], at: usize) -> usize {
 }
 
 #[unsafe(no_mangle)]
-pub extern "C" fn timing_drain(state: &mut [u32], store: &mut [u8], outbox: &mut [u8], log: &mut [u8]) -> usize
+pub extern "C" fn timing_drain(
+    state: &mut [u32],
+    store: &mut [u8],
+    outbox: &mut [u8],
+    log: &mut [u8],
+) -> usize
     requires { length state.old ≡ word_count }
 {
     transfer::drain::drain(state, store, outbox, log, 0)
