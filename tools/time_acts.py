@@ -12,22 +12,26 @@ sys.dont_write_bytecode = True
 from timing import LENT_STATES, run
 
 CRATE = """// The acts that calls are made of, for another language to call.
-use model::number::BufferNumber;
-use model::number::MaybeBuffer;
-use model::number::MaybeMutex;
-use model::number::MaybeTask;
-use model::number::MutexNumber;
-use model::number::TaskNumber;
-ghost use mathlib.Core.Path.{_≡_};
-ghost use lib.ListN.{length};
-ghost use Rattle·model.specs.Sizes.{tasks};
-ghost use Rattle·model.specs.Valid.{Arrivals, Priorities, Bitmap};
-ghost use Rattle·model.specs.Words.{word_count, kernel};
-ghost use Rattle·order.specs.Order.{Tasks};
+#![tactic(auto)]
 
-#[no_mangle]
-pub extern "C" fn timing_end_wait(state: &mut [u32], outbox: &mut [u8], log: &mut [u8], at: usize, t: u32, code: i32) -> usize
-    requires { ⌜ length (now state) ≡ word_count ⌝ }
+ghost use Rattle.std.specs.Prelude.{◌≡◌, length};
+ghost use Rattle.model.specs.Sizes.{tasks};
+ghost use Rattle.model.specs.Valid.{Arrivals, Priorities, Bitmap};
+ghost use Rattle.model.specs.Words.{word_count, kernel};
+ghost use Rattle.order.specs.Order.{Tasks};
+
+use model::number::{BufferNumber, MaybeBuffer, MaybeMutex, MaybeTask, MutexNumber, TaskNumber};
+
+#[unsafe(no_mangle)]
+pub extern "C" fn timing_end_wait(
+    state: &mut [u32],
+    outbox: &mut [u8],
+    log: &mut [u8],
+    at: usize,
+    t: u32,
+    code: i32,
+) -> usize
+    requires { length state.old ≡ word_count }
 {
     match TaskNumber::from_word(t) {
         MaybeTask::Task(n) => act::wait::end_wait(state, outbox, log, at, n, code),
@@ -35,9 +39,15 @@ pub extern "C" fn timing_end_wait(state: &mut [u32], outbox: &mut [u8], log: &mu
     }
 }
 
-#[no_mangle]
-pub extern "C" fn timing_release(state: &mut [u32], outbox: &mut [u8], log: &mut [u8], at: usize, m: u32) -> usize
-    requires { ⌜ length (now state) ≡ word_count ⌝ }
+#[unsafe(no_mangle)]
+pub extern "C" fn timing_release(
+    state: &mut [u32],
+    outbox: &mut [u8],
+    log: &mut [u8],
+    at: usize,
+    m: u32,
+) -> usize
+    requires { length state.old ≡ word_count }
 {
     match MutexNumber::from_word(m) {
         MaybeMutex::Mutex(n) => act::mutex::release(state, outbox, log, at, n),
@@ -45,12 +55,18 @@ pub extern "C" fn timing_release(state: &mut [u32], outbox: &mut [u8], log: &mut
     }
 }
 
-#[no_mangle]
-pub extern "C" fn timing_release_settled(state: &mut [u32], outbox: &mut [u8], log: &mut [u8], at: usize, m: u32) -> usize
-    requires { ⌜ length (now state) ≡ word_count ⌝ }
-    requires { ⌜ Priorities (kernel (now state)) ⌝ }
-    requires { ⌜ Bitmap (kernel (now state)) ⌝ }
-    requires { ⌜ Arrivals (kernel (now state)) ⌝ }
+#[unsafe(no_mangle)]
+pub extern "C" fn timing_release_settled(
+    state: &mut [u32],
+    outbox: &mut [u8],
+    log: &mut [u8],
+    at: usize,
+    m: u32,
+) -> usize
+    requires state_len { length state.old ≡ word_count }
+    requires priorities { Priorities (kernel state.old) }
+    requires bitmap { Bitmap (kernel state.old) }
+    requires arrivals { Arrivals (kernel state.old) }
 {
     match MutexNumber::from_word(m) {
         MaybeMutex::Mutex(n) => act::mutex::release_settled(state, outbox, log, at, n),
@@ -58,9 +74,15 @@ pub extern "C" fn timing_release_settled(state: &mut [u32], outbox: &mut [u8], l
     }
 }
 
-#[no_mangle]
-pub extern "C" fn timing_become_dormant(state: &mut [u32], outbox: &mut [u8], log: &mut [u8], at: usize, t: u32) -> usize
-    requires { ⌜ length (now state) ≡ word_count ⌝ }
+#[unsafe(no_mangle)]
+pub extern "C" fn timing_become_dormant(
+    state: &mut [u32],
+    outbox: &mut [u8],
+    log: &mut [u8],
+    at: usize,
+    t: u32,
+) -> usize
+    requires { length state.old ≡ word_count }
 {
     match TaskNumber::from_word(t) {
         MaybeTask::Task(n) => act::task::become_dormant(state, outbox, log, at, n),
@@ -68,9 +90,15 @@ pub extern "C" fn timing_become_dormant(state: &mut [u32], outbox: &mut [u8], lo
     }
 }
 
-#[no_mangle]
-pub extern "C" fn timing_tick_task(state: &mut [u32], outbox: &mut [u8], log: &mut [u8], at: usize, t: u32) -> usize
-    requires { ⌜ length (now state) ≡ word_count ⌝ }
+#[unsafe(no_mangle)]
+pub extern "C" fn timing_tick_task(
+    state: &mut [u32],
+    outbox: &mut [u8],
+    log: &mut [u8],
+    at: usize,
+    t: u32,
+) -> usize
+    requires { length state.old ≡ word_count }
 {
     match TaskNumber::from_word(t) {
         MaybeTask::Task(n) => act::task::tick_task(state, outbox, log, at, n),
@@ -78,25 +106,37 @@ pub extern "C" fn timing_tick_task(state: &mut [u32], outbox: &mut [u8], log: &m
     }
 }
 
-#[no_mangle]
-pub extern "C" fn timing_queue_order(state: &[u32], place: u32, object: u32, order: &mut [u32]) -> usize
-    requires { ⌜ length (now state) ≡ word_count ⌝ }
-    requires { ⌜ length (now order) ≡ tasks ⌝ }
+#[unsafe(no_mangle)]
+pub extern "C" fn timing_queue_order(
+    state: &[u32],
+    place: u32,
+    object: u32,
+    order: &mut [u32],
+) -> usize
+    requires state_len { length state.now ≡ word_count }
+    requires order_len { length order.old ≡ tasks }
 {
     order::queue_order(state, place, object, order)
 }
 
-#[no_mangle]
-pub extern "C" fn timing_end_waits(state: &mut [u32], outbox: &mut [u8], log: &mut [u8], at: usize, order: &[u32], code: i32) -> usize
-    requires { ⌜ length (now state) ≡ word_count ⌝ }
-    requires { ⌜ Tasks (now order) ⌝ }
+#[unsafe(no_mangle)]
+pub extern "C" fn timing_end_waits(
+    state: &mut [u32],
+    outbox: &mut [u8],
+    log: &mut [u8],
+    at: usize,
+    order: &[u32],
+    code: i32,
+) -> usize
+    requires state_len { length state.old ≡ word_count }
+    requires tasks { Tasks order.now }
 {
     act::waits::end_waits(state, outbox, log, at, order, code)
 }
 
-#[no_mangle]
+#[unsafe(no_mangle)]
 pub extern "C" fn timing_take_oldest(state: &mut [u32], store: &mut [u8], b: u32)
-    requires { ⌜ length (now state) ≡ word_count ⌝ }
+    requires { length state.old ≡ word_count }
 {
     match BufferNumber::from_word(b) {
         MaybeBuffer::Buffer(n) => transfer::store::take_oldest(state, store, n),
@@ -104,9 +144,15 @@ pub extern "C" fn timing_take_oldest(state: &mut [u32], store: &mut [u8], b: u32
     }
 }
 
-#[no_mangle]
-pub extern "C" fn timing_drain(state: &mut [u32], store: &mut [u8], outbox: &mut [u8], log: &mut [u8], at: usize) -> usize
-    requires { ⌜ length (now state) ≡ word_count ⌝ }
+#[unsafe(no_mangle)]
+pub extern "C" fn timing_drain(
+    state: &mut [u32],
+    store: &mut [u8],
+    outbox: &mut [u8],
+    log: &mut [u8],
+    at: usize,
+) -> usize
+    requires { length state.old ≡ word_count }
 {
     transfer::drain::drain(state, store, outbox, log, at)
 }

@@ -14,27 +14,33 @@ sys.dont_write_bytecode = True
 from timing import LENT_STATES, run
 
 CRATE = """// A record of a script with the check of the state and without, and parts of it, for another language to call.
+#![tactic(auto)]
+
+ghost use Rattle.std.specs.Prelude.{◌≡◌, length};
+ghost use Rattle.model.specs.Sizes.{tasks};
+ghost use Rattle.model.specs.Number.{maybe_task, word_number};
+ghost use Rattle.model.specs.Valid.{Bitmap};
+ghost use Rattle.model.specs.Words.{word_count, kernel};
+ghost use Rattle.act.specs.Held.{areas};
+ghost use Rattle.call.specs.Steps.{Ready};
+
 use call::step::valid_step;
-use model::call::Cursor;
-use model::call::Progress;
-use model::call::Read;
+use model::call::{Cursor, Progress, Read};
 use model::number::TaskNumber;
 use queue::next::next_to_run;
 use run::run_record;
-use script::reader::message;
-use script::reader::read_record;
-ghost use mathlib.Core.Path.{_≡_};
-ghost use lib.ListN.{length};
-ghost use Rattle·model.specs.Sizes.{tasks};
-ghost use Rattle·model.specs.Number.{maybe_task, word_number};
-ghost use Rattle·model.specs.Valid.{Bitmap};
-ghost use Rattle·model.specs.Words.{word_count, kernel};
-ghost use Rattle·act.specs.Held.{areas};
-ghost use Rattle·call.specs.Steps.{Ready};
+use script::reader::{message, read_record};
 
 // Answers how many bytes of log were written; the place goes on to the next record.
-#[no_mangle]
-pub extern "C" fn timing_checked(state: &mut [u32], store: &mut [u8], outbox: &mut [u8], log: &mut [u8], script: &[u8], at: &mut usize) -> usize {
+#[unsafe(no_mangle)]
+pub extern "C" fn timing_checked(
+    state: &mut [u32],
+    store: &mut [u8],
+    outbox: &mut [u8],
+    log: &mut [u8],
+    script: &[u8],
+    at: &mut usize,
+) -> usize {
     let ran = run_record(state, store, outbox, log, script, Cursor { at: *at });
     let progress = ran.progress;
     if let Progress::Answered { answer: _, next } = progress {
@@ -44,7 +50,7 @@ pub extern "C" fn timing_checked(state: &mut [u32], store: &mut [u8], outbox: &m
 }
 
 // The task that runs is handed over, and the next one handed back.
-#[no_mangle]
+#[unsafe(no_mangle)]
 pub extern "C" fn timing_unchecked(
     state: &mut [u32],
     store: &mut [u8],
@@ -55,21 +61,29 @@ pub extern "C" fn timing_unchecked(
     runs: u32,
     written: &mut usize,
 ) -> u32
-    requires { ⌜ Ready (areas (now state) (now store) (now outbox) (now log)) (maybe_task (word_number runs tasks)) ⌝ }
+    requires { Ready (areas state.old store.old outbox.old log.old) (maybe_task (word_number runs tasks)) }
 {
     let caller = TaskNumber::from_word(runs);
     let place = Cursor { at: *at };
     let Read::Record { call, next } = read_record(script, place) else {
         return 0;
     };
-    let step = valid_step(state, store, outbox, log, caller, call, message(script, place));
+    let step = valid_step(
+        state,
+        store,
+        outbox,
+        log,
+        caller,
+        call,
+        message(script, place),
+    );
     *at = next.at;
     *written = step.written;
     let next_runs = step.runs;
     next_runs.byte() as u32
 }
 
-#[no_mangle]
+#[unsafe(no_mangle)]
 pub extern "C" fn timing_read(script: &[u8], at: usize) -> usize {
     let Read::Record { call: _, next } = read_record(script, Cursor { at: at }) else {
         return 0;
@@ -77,44 +91,27 @@ pub extern "C" fn timing_read(script: &[u8], at: usize) -> usize {
     next.at
 }
 
-#[no_mangle]
-pub extern "C" fn timing_drain(state: &mut [u32], store: &mut [u8], outbox: &mut [u8], log: &mut [u8]) -> usize
-    requires { ⌜ length (now state) ≡ word_count ⌝ }
+#[unsafe(no_mangle)]
+pub extern "C" fn timing_drain(
+    state: &mut [u32],
+    store: &mut [u8],
+    outbox: &mut [u8],
+    log: &mut [u8],
+) -> usize
+    requires { length state.old ≡ word_count }
 {
     transfer::drain::drain(state, store, outbox, log, 0)
 }
 
-#[no_mangle]
+#[unsafe(no_mangle)]
 pub extern "C" fn timing_next_to_run(state: &[u32]) -> u32
-    requires { ⌜ length (now state) ≡ word_count ⌝ }
-    requires { ⌜ Bitmap (kernel (now state)) ⌝ }
+    requires state_len { length state.now ≡ word_count }
+    requires bitmap { Bitmap (kernel state.now) }
 {
     let runs = next_to_run(state);
     runs.byte() as u32
 }
 """
-
-# The task handed over is the one that `Ready` speaks of.
-PROOFS = {
-    "timing_unchecked": """use mathlib.Core.Path.{_∙_}
-use borrow.Author.Needs.{needs}
-use Rattle·timing·proofs.proofs.timing_unchecked.Statement.{statement}
-use Rattle·timing·proofs.proofs.timing_unchecked.Tie as tie
-
-valid-step-requires : tie.Need-valid-step-requires
-valid-step-requires c κs =
-    let d = c .before .before .before .before .before .before .before .before .before .before in
-    let ready = d .before .before .before .before .before .before .pre in
-    record { words = ready .words; log = ready .log; sound = ready .sound; runs = d .from-word .ensures ∙ ready .runs }
-
-pub timing-unchecked-spec : {M : Type 1} → statement M
-timing-unchecked-spec =
-    tie.close
-    (tie.spec (λ c κs. search needs) (λ c κs. search needs) (λ c. search needs) (λ c. search needs) (λ c. search needs) (λ c κs. search needs)
-    valid-step-requires (λ c κs. search needs) (λ c. search needs) (λ c. search needs) (λ c. search needs) (λ c. search needs) (λ c. search needs)
-    (λ c. search needs))
-"""
-}
 
 PROGRAM = r"""
 use reference::kernel::Place;
@@ -634,4 +631,4 @@ fn main() {
 
 if __name__ == "__main__":
     on = "model script queue act transfer call run"
-    run(CRATE, on, LENT_STATES + PROGRAM, lambda folder: sys.argv[1:] or ["1000", "101", "3"], PROOFS)
+    run(CRATE, on, LENT_STATES + PROGRAM, lambda folder: sys.argv[1:] or ["1000", "101", "3"])

@@ -10,12 +10,14 @@ sys.dont_write_bytecode = True
 from timing import run
 
 CRATE = """// A message stored and the oldest removed, for another language to call.
-#[no_mangle]
+#![tactic(auto)]
+
+#[unsafe(no_mangle)]
 pub extern "C" fn timing_append(r: &mut [u8], used: usize, m: &[u8], n: usize) {
     message::region::append(r, used, m, n);
 }
 
-#[no_mangle]
+#[unsafe(no_mangle)]
 pub extern "C" fn timing_remove(r: &mut [u8]) {
     message::region::remove(r);
 }

@@ -13,53 +13,54 @@ sys.dont_write_bytecode = True
 from timing import LENT_STATES, run
 
 CRATE = """// The search for the next task, ways to the first bit, and the keeping of the bits, for another language to call.
-use model::number::MaybeTask;
-use model::number::TaskNumber;
-use queue::next::next_to_run;
-ghost use mathlib.Core.Path.{_≡_};
-ghost use lib.ListN.{length};
-ghost use Rattle·model.specs.Valid.{Bitmap};
-ghost use Rattle·model.specs.Words.{word_count, kernel};
+#![tactic(auto)]
 
-#[no_mangle]
+ghost use Rattle.std.specs.Prelude.{◌≡◌, length};
+ghost use Rattle.model.specs.Valid.{Bitmap};
+ghost use Rattle.model.specs.Words.{word_count, kernel};
+
+use model::number::{MaybeTask, TaskNumber};
+use queue::next::next_to_run;
+
+#[unsafe(no_mangle)]
 pub extern "C" fn timing_next_to_run(state: &[u32]) -> u32
-    requires { ⌜ length (now state) ≡ word_count ⌝ }
-    requires { ⌜ Bitmap (kernel (now state)) ⌝ }
+    requires state_len { length state.now ≡ word_count }
+    requires bitmap { Bitmap (kernel state.now) }
 {
     let runs = next_to_run(state);
     runs.byte() as u32
 }
 
-#[no_mangle]
+#[unsafe(no_mangle)]
 pub extern "C" fn timing_renew_bit(state: &mut [u32], t: u32)
-    requires { ⌜ length (now state) ≡ word_count ⌝ }
+    requires { length state.old ≡ word_count }
 {
     if let MaybeTask::Task(n) = TaskNumber::from_word(t) {
         ready::renew_bit(state, n);
     }
 }
 
-#[no_mangle]
+#[unsafe(no_mangle)]
 pub extern "C" fn timing_renew_bits(state: &mut [u32])
-    requires { ⌜ length (now state) ≡ word_count ⌝ }
+    requires { length state.old ≡ word_count }
 {
     ready::renew_bits(state);
 }
 
 // Ways to the priority of a word's first bit: none, for the time of the call itself,
-#[no_mangle]
+#[unsafe(no_mangle)]
 pub extern "C" fn timing_no_way(word: u32) -> u32 {
     word
 }
 
 // the zeros below it are counted,
-#[no_mangle]
+#[unsafe(no_mangle)]
 pub extern "C" fn timing_by_count(word: u32) -> u32 {
     u32::trailing_zeros(word) % 32 + 1
 }
 
 // the half that has it, its half that has it, and so on,
-#[no_mangle]
+#[unsafe(no_mangle)]
 pub extern "C" fn timing_by_halves(word: u32) -> u32 {
     let mut rest = word;
     let mut zeros: u32 = 0;
@@ -82,7 +83,7 @@ pub extern "C" fn timing_by_halves(word: u32) -> u32 {
 }
 
 // a table, four bits at a time.
-#[no_mangle]
+#[unsafe(no_mangle)]
 pub extern "C" fn timing_by_table(word: u32) -> u32 {
     let table: [u32; 16] = [0, 1, 2, 1, 3, 1, 2, 1, 4, 1, 2, 1, 3, 1, 2, 1];
     let first = table[(word % 16) as usize];

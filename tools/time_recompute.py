@@ -11,13 +11,14 @@ sys.dont_write_bytecode = True
 from timing import run
 
 CRATE = """// Priorities worked out afresh, for another language to call.
-ghost use mathlib.Core.Path.{_≡_};
-ghost use lib.ListN.{length};
-ghost use Rattle·model.specs.Words.{word_count};
+#![tactic(auto)]
 
-#[no_mangle]
+ghost use Rattle.std.specs.Prelude.{◌≡◌, length};
+ghost use Rattle.model.specs.Words.{word_count};
+
+#[unsafe(no_mangle)]
 pub extern "C" fn timing_recompute(state: &mut [u32])
-    requires { ⌜ length (now state) ≡ word_count ⌝ }
+    requires { length state.old ≡ word_count }
 {
     priority::recompute(state);
 }

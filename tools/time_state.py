@@ -9,15 +9,16 @@ sys.dont_write_bytecode = True
 from timing import run
 
 CRATE = """// A set and a get of a task's base priority, for another language to call.
-use model::number::MaybeTask;
-use model::number::TaskNumber;
-ghost use mathlib.Core.Path.{_≡_};
-ghost use lib.ListN.{length};
-ghost use Rattle·model.specs.Words.{word_count};
+#![tactic(auto)]
 
-#[no_mangle]
+ghost use Rattle.std.specs.Prelude.{◌≡◌, length};
+ghost use Rattle.model.specs.Words.{word_count};
+
+use model::number::{MaybeTask, TaskNumber};
+
+#[unsafe(no_mangle)]
 pub extern "C" fn timing_set(state: &mut [u32], n: u32, v: u32)
-    requires { ⌜ length (now state) ≡ word_count ⌝ }
+    requires { length state.old ≡ word_count }
 {
     match TaskNumber::from_word(n) {
         MaybeTask::Task(t) => state::task::set_base(state, t, v),
@@ -25,9 +26,9 @@ pub extern "C" fn timing_set(state: &mut [u32], n: u32, v: u32)
     }
 }
 
-#[no_mangle]
+#[unsafe(no_mangle)]
 pub extern "C" fn timing_get(state: &[u32], n: u32) -> u32
-    requires { ⌜ length (now state) ≡ word_count ⌝ }
+    requires { length state.now ≡ word_count }
 {
     match TaskNumber::from_word(n) {
         MaybeTask::Task(t) => state::task::base(state, t),

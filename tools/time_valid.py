@@ -11,7 +11,9 @@ from compare_verdicts import STATES
 from timing import run
 
 CRATE = """// The check of a lent state, for another language to call.
-#[no_mangle]
+#![tactic(auto)]
+
+#[unsafe(no_mangle)]
 pub extern "C" fn timing_is_valid(state: &[u32], store: &[u8], outbox: &[u8]) -> bool {
     valid::is_valid(state, store, outbox)
 }

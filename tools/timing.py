@@ -88,9 +88,8 @@ fn busiest() -> Vec<Lent> {
 """
 
 
-def run(crate, on, program, inputs=lambda folder: [], proofs={}):
-    """Proves the crate, whose text is `crate` and which is built on the crates `on`, and runs the Rust program on what `inputs` makes.
-    A function that needs a proof of its own has its text in `proofs`."""
+def run(crate, on, program, inputs=lambda folder: []):
+    """Proves the crate, whose text is `crate` and which is built on the crates `on`, and runs the Rust program on what `inputs` makes."""
     subprocess.run(["cargo", "build", "--release", "--offline", "--quiet"], cwd=ROOT / "reference", check=True)
     with tempfile.TemporaryDirectory() as name:
         folder = pathlib.Path(name)
@@ -99,10 +98,6 @@ def run(crate, on, program, inputs=lambda folder: [], proofs={}):
         shutil.copytree(ROOT / "crates", copy / "crates")
         source.mkdir(parents=True)
         (source / "lib.rt").write_text(crate)
-        for function, proof in proofs.items():
-            place = copy / "crates/timing/proofs" / function
-            place.mkdir(parents=True)
-            (place / "Proof.antt").write_text(proof)
         (copy / "crates.txt").write_text((ROOT / "crates.txt").read_text() + f"timing staticlib: {on}\n")
         log = subprocess.run(["rt", "lib"], cwd=copy / "crates/timing", capture_output=True, text=True)
         if log.returncode != 0:
