@@ -95,7 +95,7 @@ def run(crate, on, program, inputs=lambda folder: []):
         folder = pathlib.Path(name)
         copy = folder / "repository"
         source = copy / "crates/timing/src"
-        shutil.copytree(ROOT / "crates", copy / "crates")
+        shutil.copytree(ROOT / "crates", copy / "crates", ignore=shutil.ignore_patterns("out"))
         source.mkdir(parents=True)
         (source / "lib.rt").write_text(crate)
         (copy / "crates.txt").write_text((ROOT / "crates.txt").read_text() + f"timing staticlib: {on}\n")
