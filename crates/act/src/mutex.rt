@@ -7,10 +7,11 @@ ghost use Rattle.model.specs.Words.{word_count, kernel};
 ghost use Rattle.act.specs.Held.{DoesInLog};
 ghost use Rattle.act.specs.Ends.{release_held};
 
+use state::layout::Words;
 use super::wait::end_wait;
 use model::attribute::CEILINGED;
 use model::code::E_OK;
-use model::number::{MaybeMutex, MaybeTask, MutexNumber, TaskNumber};
+use model::number::{MutexNumber, TaskNumber};
 use model::sizes::MUTEXES;
 use priority::recompute;
 use queue::front::front;
@@ -19,17 +20,16 @@ use state::task::LOCKING;
 
 // "the first waiter gets it and its wait ends with 0"; without a waiter it is free.
 pub fn release(
-    state: &mut [u32],
+    state: &mut Words,
     outbox: &mut [u8],
     log: &mut [u8],
     at: usize,
     m: MutexNumber,
 ) -> usize
-    requires { length state.old ≡ word_count }
     ensures { DoesInLog (λ w. released w m.0) state.old outbox.old log.old at state.new outbox.new log.new result }
 {
     let first = front(state, LOCKING, m.word());
-    let MaybeTask::Task(t) = first else {
+    let Some(t) = first else {
         set_holder(state, m, 0);
         recompute(state);
         return at;
@@ -40,20 +40,19 @@ pub fn release(
 
 // The same where priorities are settled and the bits go with them: a mutex without a ceiling that nobody waits for becomes free, and no priority changes.
 pub fn release_settled(
-    state: &mut [u32],
+    state: &mut Words,
     outbox: &mut [u8],
     log: &mut [u8],
     at: usize,
     m: MutexNumber,
 ) -> usize
-    requires state_len { length state.old ≡ word_count }
     requires priorities { Priorities (kernel state.old) }
     requires bitmap { Bitmap (kernel state.old) }
     requires arrivals { Arrivals (kernel state.old) }
     ensures { DoesInLog (λ w. released w m.0) state.old outbox.old log.old at state.new outbox.new log.new result }
 {
     let first = front(state, LOCKING, m.word());
-    let MaybeTask::Task(t) = first else {
+    let Some(t) = first else {
         let a = attribute(state, m);
         set_holder(state, m, 0);
         if a == CEILINGED {
@@ -67,19 +66,18 @@ pub fn release_settled(
 
 // Gives up the mutex of a number, if the task holds it. Each number that is asked for names a mutex.
 fn release_held(
-    state: &mut [u32],
+    state: &mut Words,
     outbox: &mut [u8],
     log: &mut [u8],
     at: usize,
     n: u32,
     t: TaskNumber,
 ) -> usize
-    requires state_len { length state.old ≡ word_count }
-    requires from { From 1 mutexes n }
+    requires { From 1 mutexes n }
     ensures { DoesInLog (release_held t.0 n) state.old outbox.old log.old at state.new outbox.new log.new result }
 {
     let found = MutexNumber::from_word(n);
-    let MaybeMutex::Mutex(m) = found else {
+    let Some(m) = found else {
         return at;
     };
     if holder(state, m) != t.word() {
@@ -90,13 +88,12 @@ fn release_held(
 
 // All that a task holds: "gives up its mutexes from the lowest number, priorities settled after each act".
 pub(crate) fn release_all(
-    state: &mut [u32],
+    state: &mut Words,
     outbox: &mut [u8],
     log: &mut [u8],
     at: usize,
     t: TaskNumber,
 ) -> usize
-    requires { length state.old ≡ word_count }
     ensures { DoesInLog (λ w. release_all w t.0) state.old outbox.old log.old at state.new outbox.new log.new result }
 {
     let mut next = at;

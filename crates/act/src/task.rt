@@ -7,6 +7,7 @@ ghost use Rattle.state.specs.Words.{Represents};
 ghost use Rattle.act.specs.Held.{DoesInLog};
 ghost use Rattle.act.specs.Ends.{Retires};
 
+use state::layout::Words;
 use super::mutex::release_all;
 use super::wait::{end_wait, leave};
 use model::code::E_TMOUT;
@@ -18,8 +19,7 @@ use queue::front::by_priority;
 use state::task::DORMANT;
 
 // The task has left its wait, stands in no queue and has its initial priority for a base again, before it gives up its mutexes.
-fn retire(state: &mut [u32], outbox: &mut [u8], t: TaskNumber)
-    requires { length state.old ≡ word_count }
+fn retire(state: &mut Words, outbox: &mut [u8], t: TaskNumber)
     ensures { Retires t.0 state.old outbox.old state.new outbox.new }
 {
     leave(state, outbox, t);
@@ -32,13 +32,12 @@ fn retire(state: &mut [u32], outbox: &mut [u8], t: TaskNumber)
 
 // "the task leaves its wait unanswered, then gives up its mutexes".
 pub fn become_dormant(
-    state: &mut [u32],
+    state: &mut Words,
     outbox: &mut [u8],
     log: &mut [u8],
     at: usize,
     t: TaskNumber,
 ) -> usize
-    requires { length state.old ≡ word_count }
     ensures { DoesInLog (λ w. become_dormant w t.0) state.old outbox.old log.old at state.new outbox.new log.new result }
 {
     retire(state, outbox, t);
@@ -47,8 +46,7 @@ pub fn become_dormant(
 
 // "chg_pri counts as joining anew, except in lines by joining only"; by 02, request Five, "only if current and base priority are
 // equal afterwards": priorities are settled before this is asked. A dormant task stands in no queue.
-pub fn rejoin(state: &mut [u32], t: TaskNumber)
-    requires { length state.old ≡ word_count }
+pub fn rejoin(state: &mut Words, t: TaskNumber)
     ensures { Represents state.new (rejoined (kernel state.old) t.0) }
 {
     let place = state::task::place(state, t);
@@ -62,13 +60,12 @@ pub fn rejoin(state: &mut [u32], t: TaskNumber)
 
 // A millisecond passes for one task: without a wait, or with one that has no end, nothing changes.
 pub fn tick_task(
-    state: &mut [u32],
+    state: &mut Words,
     outbox: &mut [u8],
     log: &mut [u8],
     at: usize,
     t: TaskNumber,
 ) -> usize
-    requires { length state.old ≡ word_count }
     ensures { DoesInLog (λ w. tick_task w t.0) state.old outbox.old log.old at state.new outbox.new log.new result }
 {
     let left = state::task::left(state, t);

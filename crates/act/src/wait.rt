@@ -8,6 +8,7 @@ ghost use Rattle.state.specs.Words.{Represents};
 ghost use Rattle.act.specs.Held.{DoesInWords, DoesInLog};
 ghost use Rattle.act.specs.Ends.{wait_begun, Leaves, Unblocks};
 
+use state::layout::Words;
 use message::outbox::outbox_clear;
 use model::number::{TaskNumber, natural};
 use model::sizes::ENDLESS;
@@ -29,14 +30,13 @@ fn millis(timeout: i32) -> u32
 
 // A task begins to wait in the queue of an object, with the argument of the wait; current priorities stay as they are.
 pub fn begin_wait(
-    state: &mut [u32],
+    state: &mut Words,
     t: TaskNumber,
     place: u32,
     object: u32,
     argument: u32,
     timeout: i32,
 )
-    requires { length state.old ≡ word_count }
     ensures { Represents state.new (wait_begun (kernel state.old) t.0 (queue place object) argument timeout) }
 {
     arrive(state, t, place, object);
@@ -45,8 +45,7 @@ pub fn begin_wait(
 }
 
 // The same, and priorities are settled if the wait is for a mutex.
-pub fn wait(state: &mut [u32], t: TaskNumber, place: u32, object: u32, argument: u32, timeout: i32)
-    requires { length state.old ≡ word_count }
+pub fn wait(state: &mut Words, t: TaskNumber, place: u32, object: u32, argument: u32, timeout: i32)
     ensures { DoesInWords (λ w. waiting w t.0 (queue place object) argument timeout) state.old state.new }
 {
     begin_wait(state, t, place, object, argument, timeout);
@@ -56,8 +55,7 @@ pub fn wait(state: &mut [u32], t: TaskNumber, place: u32, object: u32, argument:
 }
 
 // A task's wait is over, whatever ended it: its fields are cleared, and a sender's bytes leave the outbox.
-pub(crate) fn leave(state: &mut [u32], outbox: &mut [u8], t: TaskNumber)
-    requires { length state.old ≡ word_count }
+pub(crate) fn leave(state: &mut Words, outbox: &mut [u8], t: TaskNumber)
     ensures { Leaves t.0 state.old outbox.old state.new outbox.new }
 {
     let place = state::task::place(state, t);
@@ -70,8 +68,7 @@ pub(crate) fn leave(state: &mut [u32], outbox: &mut [u8], t: TaskNumber)
 }
 
 // The same, and the task is ready again.
-fn unblock(state: &mut [u32], outbox: &mut [u8], t: TaskNumber)
-    requires { length state.old ≡ word_count }
+fn unblock(state: &mut Words, outbox: &mut [u8], t: TaskNumber)
     ensures { Unblocks t.0 state.old outbox.old state.new outbox.new }
 {
     let stood = state::task::place(state, t);
@@ -84,14 +81,13 @@ fn unblock(state: &mut [u32], outbox: &mut [u8], t: TaskNumber)
 
 // A wait ends with a code and delivers nothing.
 pub fn end_wait(
-    state: &mut [u32],
+    state: &mut Words,
     outbox: &mut [u8],
     log: &mut [u8],
     at: usize,
     t: TaskNumber,
     code: i32,
 ) -> usize
-    requires { length state.old ≡ word_count }
     ensures { DoesInLog (λ w. end_wait w t.0 code Nothing) state.old outbox.old log.old at state.new outbox.new log.new result }
 {
     unblock(state, outbox, t);
@@ -100,7 +96,7 @@ pub fn end_wait(
 
 // A wait ends with a code and delivers a message.
 pub fn end_wait_message(
-    state: &mut [u32],
+    state: &mut Words,
     outbox: &mut [u8],
     log: &mut [u8],
     at: usize,
@@ -108,7 +104,6 @@ pub fn end_wait_message(
     code: i32,
     message: &[u8],
 ) -> usize
-    requires { length state.old ≡ word_count }
     ensures { DoesInLog (λ w. end_wait w t.0 code (Message message.now)) state.old outbox.old log.old at state.new outbox.new log.new result }
 {
     unblock(state, outbox, t);
@@ -118,7 +113,7 @@ pub fn end_wait_message(
 
 // A wait ends with a code and delivers a block.
 pub fn end_wait_block(
-    state: &mut [u32],
+    state: &mut Words,
     outbox: &mut [u8],
     log: &mut [u8],
     at: usize,
@@ -126,7 +121,6 @@ pub fn end_wait_block(
     code: i32,
     block: u32,
 ) -> usize
-    requires { length state.old ≡ word_count }
     ensures { DoesInLog (λ w. end_wait w t.0 code (Block block)) state.old outbox.old log.old at state.new outbox.new log.new result }
 {
     unblock(state, outbox, t);

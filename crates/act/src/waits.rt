@@ -9,39 +9,38 @@ ghost use Rattle.model.specs.Words.{word_count};
 ghost use Rattle.order.specs.Order.{Tasks};
 ghost use Rattle.act.specs.Held.{DoesInLog};
 
+use state::layout::Words;
 use super::wait::end_wait;
-use model::number::{MaybeTask, TaskNumber};
+use model::number::TaskNumber;
 
 // Ends the wait of the task of a number. Each number that is asked for names one, so the log never goes on for want of one.
 fn end_numbered(
-    state: &mut [u32],
+    state: &mut Words,
     outbox: &mut [u8],
     log: &mut [u8],
     at: usize,
     n: u32,
     code: i32,
 ) -> usize
-    requires state_len { length state.old ≡ word_count }
-    requires from { From 1 tasks n }
+    requires { From 1 tasks n }
     ensures { DoesInLog (λ w. end_wait w n code Nothing) state.old outbox.old log.old at state.new outbox.new log.new result }
 {
     let found = TaskNumber::from_word(n);
-    let MaybeTask::Task(t) = found else {
+    let Some(t) = found else {
         return at;
     };
     end_wait(state, outbox, log, at, t, code)
 }
 
 pub fn end_waits(
-    state: &mut [u32],
+    state: &mut Words,
     outbox: &mut [u8],
     log: &mut [u8],
     at: usize,
     order: &[u32],
     code: i32,
 ) -> usize
-    requires state_len { length state.old ≡ word_count }
-    requires tasks { Tasks order.now }
+    requires { Tasks order.now }
     ensures { DoesInLog (λ w. end_waits w order.now code) state.old outbox.old log.old at state.new outbox.new log.new result }
 {
     let mut next = at;

@@ -6,11 +6,12 @@ ghost use Rattle.model.specs.Valid.{layout, region_layout};
 ghost use Rattle.model.specs.Words.{word_count, kernel};
 ghost use Rattle.areas.specs.Messages.{oldest_laid_out};
 
+use state::layout::Words;
 use super::bytes::{all_zero, behind, first};
 use message::region::oldest_length;
 use message::room::cost;
 use message::store::store_region;
-use model::number::{BufferNumber, MaybeBuffer};
+use model::number::BufferNumber;
 use model::sizes::{BUFFERS, REGION_BYTES};
 
 // Whether the oldest message has 1 to maxmsz bytes, costs no more than is used, and is followed by zeros up to its cost.
@@ -44,8 +45,7 @@ pub fn region_layout(r: &[u8], maxmsz: u32, used: u32) -> bool
     (left == 0) & all_zero(behind(r, at))
 }
 
-fn region_laid_out(state: &[u32], store: &[u8], b: BufferNumber) -> bool
-    requires { length state.now ≡ word_count }
+fn region_laid_out(state: &Words, store: &[u8], b: BufferNumber) -> bool
     ensures { result ≡ region_layout (kernel state.now) store.now b.0 }
 {
     let maxmsz = state::buffer::maxmsz(state, b);
@@ -54,13 +54,12 @@ fn region_laid_out(state: &[u32], store: &[u8], b: BufferNumber) -> bool
 }
 
 // The same of every buffer. Each number of the loop names one, so no answer is given for want of one.
-pub fn regions_laid_out(state: &[u32], store: &[u8]) -> bool
-    requires { length state.now ≡ word_count }
+pub fn regions_laid_out(state: &Words, store: &[u8]) -> bool
     ensures { result ≡ all (region_layout (kernel state.now) store.now) (up_to buffers) }
 {
     for n in 1..=BUFFERS {
         let found = BufferNumber::from_word(n);
-        let MaybeBuffer::Buffer(b) = found else {
+        let Some(b) = found else {
             return false;
         };
         if !region_laid_out(state, store, b) {

@@ -5,14 +5,14 @@ ghost use Rattle.model.specs.Lists.{all, up_to};
 ghost use Rattle.model.specs.Valid.{outbox_part};
 ghost use Rattle.model.specs.Words.{word_count, kernel};
 
+use state::layout::Words;
 use super::bytes::{all_zero, behind};
 use message::outbox::outbox_message;
-use model::number::{MaybeTask, TaskNumber};
+use model::number::TaskNumber;
 use model::sizes::{MESSAGE_BYTES, TASKS};
 
 // Whether zeros follow the bytes that a task sends; a task that sends nothing has a message of no bytes.
-fn part_laid_out(state: &[u32], outbox: &[u8], t: TaskNumber) -> bool
-    requires { length state.now ≡ word_count }
+fn part_laid_out(state: &Words, outbox: &[u8], t: TaskNumber) -> bool
     ensures { result ≡ outbox_part (kernel state.now) outbox.now t.0 }
 {
     let length = state::task::argument(state, t);
@@ -21,13 +21,12 @@ fn part_laid_out(state: &[u32], outbox: &[u8], t: TaskNumber) -> bool
 }
 
 // The same of every task. Each number of the loop names one, so no answer is given for want of one.
-pub fn outbox_laid_out(state: &[u32], outbox: &[u8]) -> bool
-    requires { length state.now ≡ word_count }
+pub fn outbox_laid_out(state: &Words, outbox: &[u8]) -> bool
     ensures { result ≡ all (outbox_part (kernel state.now) outbox.now) (up_to tasks) }
 {
     for n in 1..=TASKS {
         let found = TaskNumber::from_word(n);
-        let MaybeTask::Task(t) = found else {
+        let Some(t) = found else {
             return false;
         };
         if !part_laid_out(state, outbox, t) {

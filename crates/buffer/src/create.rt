@@ -4,18 +4,20 @@ ghost use Rattle.std.proofs.Math.Option.{none};
 ghost use Rattle.model.specs.Code.{number};
 ghost use Rattle.model.specs.Refusal.{first_refusal, cre_mbf_refusals};
 ghost use Rattle.model.specs.Effect.{cre_mbf};
+ghost use Rattle.model.specs.Errors.{refusal_of};
 ghost use Rattle.model.specs.Words.{word_count, kernel};
 ghost use Rattle.state.specs.Words.{Represents};
-ghost use Rattle.reply.specs.Replies.{verdict, CarriesInWords};
+ghost use Rattle.reply.specs.Replies.{CarriesInWords};
 ghost use Rattle.buffer.specs.Rows.{buffer_row};
 
+use state::layout::Words;
 use model::attribute::of_buffer;
 use model::call::Answer;
-use model::code::{E_LIMIT, E_NOMEM, E_OK, E_PAR, E_RSATR};
-use model::number::{BufferNumber, MaybeBuffer, TaskNumber, natural};
+use model::code::{E_OK, Error};
+use model::number::{BufferNumber, TaskNumber, natural};
 use model::sizes::{MESSAGE_BYTES, REGION_BYTES};
 use reply::field::{answer_number, outside};
-use reply::{Reply, Verdict};
+use reply::Reply;
 use script::log::log_answer;
 use search::unused::unused_buffer;
 
@@ -24,41 +26,39 @@ pub(crate) const LONGEST_MESSAGE: i32 = MESSAGE_BYTES as i32;
 
 const LARGEST_SIZE: i32 = REGION_BYTES as i32;
 
-pub fn refuse_cre_mbf(state: &[u32], attribute: i32, bufsz: i32, maxmsz: i32) -> Verdict
-    requires { length state.now ≡ word_count }
-    ensures { result ≡ verdict (first_refusal (cre_mbf_refusals (kernel state.now) attribute bufsz maxmsz)) }
+pub fn refuse_cre_mbf(state: &Words, attribute: i32, bufsz: i32, maxmsz: i32) -> Result<(), Error>
+    ensures { refusal_of result ≡ first_refusal (cre_mbf_refusals (kernel state.now) attribute bufsz maxmsz) }
 {
     let a = natural(attribute);
     let allowed = of_buffer(a);
     if (attribute < 0) | !allowed {
-        return Verdict::Refused(E_RSATR);
+        return Err(Error::Rsatr);
     }
     if bufsz < 0 {
-        return Verdict::Refused(E_PAR);
+        return Err(Error::Par);
     }
     if outside(1, LONGEST_MESSAGE, maxmsz) {
-        return Verdict::Refused(E_PAR);
+        return Err(Error::Par);
     }
     let found = unused_buffer(state);
-    let MaybeBuffer::Buffer(_) = found else {
-        return Verdict::Refused(E_LIMIT);
+    let Some(_) = found else {
+        return Err(Error::Limit);
     };
     if LARGEST_SIZE < bufsz {
-        return Verdict::Refused(E_NOMEM);
+        return Err(Error::Nomem);
     }
-    Verdict::Allowed
+    Ok(())
 }
 
 // A buffer's entries, all but how much of its region is used.
 pub(crate) fn set_row(
-    state: &mut [u32],
+    state: &mut Words,
     b: BufferNumber,
     exists: u32,
     attribute: u32,
     bufsz: u32,
     maxmsz: u32,
 )
-    requires { length state.old ≡ word_count }
     ensures { Represents state.new (buffer_row (kernel state.old) b.0 exists attribute bufsz maxmsz) }
 {
     state::buffer::set_exists(state, b, exists);
@@ -69,7 +69,7 @@ pub(crate) fn set_row(
 
 // A number is unused, since nothing refuses the call.
 pub fn cre_mbf(
-    state: &mut [u32],
+    state: &mut Words,
     log: &mut [u8],
     at: usize,
     caller: TaskNumber,
@@ -77,12 +77,11 @@ pub fn cre_mbf(
     bufsz: i32,
     maxmsz: i32,
 ) -> Reply
-    requires state_len { length state.old ≡ word_count }
-    requires maxmsz_value { first_refusal (cre_mbf_refusals (kernel state.old) attribute bufsz maxmsz) ≡ none }
+    requires { first_refusal (cre_mbf_refusals (kernel state.old) attribute bufsz maxmsz) ≡ none }
     ensures { CarriesInWords caller.0 (λ w. cre_mbf w (number attribute) (number bufsz) (number maxmsz)) state.old log.old at state.new log.new result }
 {
     let found = unused_buffer(state);
-    let MaybeBuffer::Buffer(b) = found else {
+    let Some(b) = found else {
         return Reply {
             answer: Answer::Code(E_OK),
             next: at,

@@ -6,42 +6,42 @@ ghost use Rattle.model.specs.Code.{E_DLT, number};
 ghost use Rattle.model.specs.Refusal.{first_refusal, deletion_refusals};
 ghost use Rattle.model.specs.Act.{end_waits};
 ghost use Rattle.model.specs.Effect.{del_mbf};
+ghost use Rattle.model.specs.Errors.{refusal_of};
 ghost use Rattle.model.specs.Words.{word_count, kernel};
 ghost use Rattle.order.specs.Order.{Tasks};
 ghost use Rattle.act.specs.Held.{areas, Does, DoesInStore, DoesInLog};
-ghost use Rattle.reply.specs.Replies.{verdict, Carries};
+ghost use Rattle.reply.specs.Replies.{Carries};
 ghost use Rattle.buffer.specs.Deletion.{struck_out, deleted};
 
+use state::layout::Words;
 use super::create::set_row;
 use act::waits::end_waits;
 use message::store::store_clear;
 use model::call::Answer;
-use model::code::{E_DLT, E_ID, E_NOEXS, E_OK};
-use model::number::{BufferNumber, MaybeBuffer, TaskNumber};
+use model::code::{E_DLT, E_OK, Error};
+use model::number::{BufferNumber, TaskNumber};
 use model::sizes::PLACES;
 use order::queue_order;
-use reply::{Reply, Verdict};
+use reply::Reply;
 use script::log::log_answer;
 use state::buffer::{exists, set_used};
 use state::task::{RECEIVING, SENDING};
 
-pub fn refuse_del_mbf(state: &[u32], buffer: i32) -> Verdict
-    requires { length state.now ≡ word_count }
-    ensures { result ≡ verdict (first_refusal (deletion_refusals buffers (kernel state.now).buffers.exists buffer)) }
+pub fn refuse_del_mbf(state: &Words, buffer: i32) -> Result<(), Error>
+    ensures { refusal_of result ≡ first_refusal (deletion_refusals buffers (kernel state.now).buffers.exists buffer) }
 {
     let found = BufferNumber::from_field(buffer);
-    let MaybeBuffer::Buffer(b) = found else {
-        return Verdict::Refused(E_ID);
+    let Some(b) = found else {
+        return Err(Error::Id);
     };
     if exists(state, b) == 0 {
-        return Verdict::Refused(E_NOEXS);
+        return Err(Error::Noexs);
     }
-    Verdict::Allowed
+    Ok(())
 }
 
 // "stored messages vanish"
-fn strike_out(state: &mut [u32], store: &mut [u8], b: BufferNumber)
-    requires { length state.old ≡ word_count }
+fn strike_out(state: &mut Words, store: &mut [u8], b: BufferNumber)
     ensures { DoesInStore (struck_out b.0) state.old store.old state.new store.new }
 {
     set_row(state, b, 0, 0, 0, 0);
@@ -51,14 +51,13 @@ fn strike_out(state: &mut [u32], store: &mut [u8], b: BufferNumber)
 
 // The waits of some tasks, and then those of others.
 fn end_both(
-    state: &mut [u32],
+    state: &mut Words,
     outbox: &mut [u8],
     log: &mut [u8],
     at: usize,
     first: &[u32],
     second: &[u32],
 ) -> usize
-    requires state_len { length state.old ≡ word_count }
     requires tasks { Tasks first.now }
     requires tasks_2 { Tasks second.now }
     ensures { DoesInLog (λ w. end_waits w (first.now ++ second.now) E_DLT) state.old outbox.old log.old at state.new outbox.new log.new result }
@@ -69,14 +68,13 @@ fn end_both(
 
 // "receivers before senders", each "in the line order that stood when the call began".
 fn delete(
-    state: &mut [u32],
+    state: &mut Words,
     store: &mut [u8],
     outbox: &mut [u8],
     log: &mut [u8],
     at: usize,
     b: BufferNumber,
 ) -> usize
-    requires { length state.old ≡ word_count }
     ensures { Does (deleted b.0) (areas state.old store.old outbox.old log.old) at (areas state.new store.new outbox.new log.new) result }
 {
     let mut receivers = [0u32; PLACES];
@@ -89,7 +87,7 @@ fn delete(
 
 // The field names a buffer, since nothing refuses the call.
 pub fn del_mbf(
-    state: &mut [u32],
+    state: &mut Words,
     store: &mut [u8],
     outbox: &mut [u8],
     log: &mut [u8],
@@ -97,13 +95,12 @@ pub fn del_mbf(
     caller: TaskNumber,
     buffer: i32,
 ) -> Reply
-    requires state_len { length state.old ≡ word_count }
-    requires buffer_value { first_refusal (deletion_refusals buffers (kernel state.old).buffers.exists buffer) ≡ none }
+    requires { first_refusal (deletion_refusals buffers (kernel state.old).buffers.exists buffer) ≡ none }
     ensures { Carries caller.0 (λ w. del_mbf w (number buffer)) (areas state.old store.old outbox.old log.old) at (areas state.new store.new outbox.new log.new) result }
 {
     let answer = Answer::Code(E_OK);
     let found = BufferNumber::from_field(buffer);
-    let MaybeBuffer::Buffer(b) = found else {
+    let Some(b) = found else {
         return Reply {
             answer: answer,
             next: at,

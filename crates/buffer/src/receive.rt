@@ -5,29 +5,30 @@ ghost use Rattle.model.specs.Code.{number};
 ghost use Rattle.model.specs.World.{running};
 ghost use Rattle.model.specs.Refusal.{first_refusal, receive_waits, rcv_mbf_refusals};
 ghost use Rattle.model.specs.Effect.{rcv_mbf};
+ghost use Rattle.model.specs.Errors.{refusal_of};
 ghost use Rattle.model.specs.Words.{word_count, kernel};
 ghost use Rattle.act.specs.Held.{areas};
-ghost use Rattle.reply.specs.Replies.{verdict, Carries, CarriesInWords, CarriesInStore, CarriesInLog};
+ghost use Rattle.reply.specs.Replies.{Carries, CarriesInWords, CarriesInStore, CarriesInLog};
 ghost use Rattle.buffer.specs.Branches.{received_stored, received_sent, receive_waiting};
 ghost use Rattle.buffer.specs.Stored.{Answerable};
 
+use state::layout::Words;
 use act::wait::{end_wait, wait};
 use message::outbox::outbox_message;
 use message::store::{store_oldest, store_oldest_length};
 use model::call::Answer;
-use model::code::{E_ID, E_NOEXS, E_OK, E_PAR, E_TMOUT};
-use model::number::{BufferNumber, MaybeBuffer, MaybeTask, TaskNumber};
+use model::code::{E_OK, Error};
+use model::number::{BufferNumber, TaskNumber};
 use queue::front::front;
 use reply::field::{answer_number, bad_timeout, no_time};
-use reply::{Reply, Verdict};
+use reply::Reply;
 use script::log::{log_answer, log_message};
 use state::buffer::{exists, used};
 use state::task::{RECEIVING, SENDING, argument};
 use transfer::store::take_oldest;
 
 // There is neither a stored message nor a sender.
-fn receive_waits(state: &[u32], b: BufferNumber) -> bool
-    requires { length state.now ≡ word_count }
+fn receive_waits(state: &Words, b: BufferNumber) -> bool
     ensures { result ≡ receive_waits (kernel state.now) b.0 }
 {
     if used(state, b) != 0 {
@@ -35,42 +36,40 @@ fn receive_waits(state: &[u32], b: BufferNumber) -> bool
     }
     let found = front(state, SENDING, b.word());
     match found {
-        MaybeTask::Task(_) => false,
-        MaybeTask::Nothing => true,
+        Some(_) => false,
+        None => true,
     }
 }
 
-pub fn refuse_rcv_mbf(state: &[u32], buffer: i32, timeout: i32) -> Verdict
-    requires { length state.now ≡ word_count }
-    ensures { result ≡ verdict (first_refusal (rcv_mbf_refusals (kernel state.now) buffer timeout)) }
+pub fn refuse_rcv_mbf(state: &Words, buffer: i32, timeout: i32) -> Result<(), Error>
+    ensures { refusal_of result ≡ first_refusal (rcv_mbf_refusals (kernel state.now) buffer timeout) }
 {
     if bad_timeout(timeout) {
-        return Verdict::Refused(E_PAR);
+        return Err(Error::Par);
     }
     let found = BufferNumber::from_field(buffer);
-    let MaybeBuffer::Buffer(b) = found else {
-        return Verdict::Refused(E_ID);
+    let Some(b) = found else {
+        return Err(Error::Id);
     };
     if exists(state, b) == 0 {
-        return Verdict::Refused(E_NOEXS);
+        return Err(Error::Noexs);
     }
     if no_time(timeout, receive_waits(state, b)) {
-        return Verdict::Refused(E_TMOUT);
+        return Err(Error::Tmout);
     }
-    Verdict::Allowed
+    Ok(())
 }
 
 // The oldest stored message; it is logged before it is taken away.
 fn receive_stored(
-    state: &mut [u32],
+    state: &mut Words,
     store: &mut [u8],
     log: &mut [u8],
     at: usize,
     caller: TaskNumber,
     b: BufferNumber,
 ) -> Reply
-    requires state_len { length state.old ≡ word_count }
-    requires answerable { Answerable b.0 store.old }
+    requires { Answerable b.0 store.old }
     ensures { CarriesInStore caller.0 (received_stored b.0) state.old store.old log.old at state.new store.new log.new result }
 {
     let n = store_oldest_length(store, b);
@@ -86,14 +85,13 @@ fn receive_stored(
 
 // A sender's message, and its wait ends.
 fn receive_sent(
-    state: &mut [u32],
+    state: &mut Words,
     outbox: &mut [u8],
     log: &mut [u8],
     at: usize,
     caller: TaskNumber,
     s: TaskNumber,
 ) -> Reply
-    requires { length state.old ≡ word_count }
     ensures { CarriesInLog caller.0 (received_sent s.0) state.old outbox.old log.old at state.new outbox.new log.new result }
 {
     let n = argument(state, s);
@@ -109,14 +107,13 @@ fn receive_sent(
 }
 
 fn wait_to_receive(
-    state: &mut [u32],
+    state: &mut Words,
     log: &mut [u8],
     at: usize,
     caller: TaskNumber,
     b: BufferNumber,
     timeout: i32,
 ) -> Reply
-    requires { length state.old ≡ word_count }
     ensures { CarriesInWords caller.0 (receive_waiting caller.0 b.0 timeout) state.old log.old at state.new log.new result }
 {
     let answer = Answer::Waits;
@@ -130,7 +127,7 @@ fn wait_to_receive(
 
 // "the oldest stored message, else the first sender's, else wait".
 fn receive(
-    state: &mut [u32],
+    state: &mut Words,
     store: &mut [u8],
     outbox: &mut [u8],
     log: &mut [u8],
@@ -139,7 +136,6 @@ fn receive(
     b: BufferNumber,
     timeout: i32,
 ) -> Reply
-    requires state_len { length state.old ≡ word_count }
     requires caller_value { caller.0 ≡ running (kernel state.old) }
     requires answerable { Answerable b.0 store.old }
     ensures { Carries caller.0 (λ w. rcv_mbf w b.0 timeout) (areas state.old store.old outbox.old log.old) at (areas state.new store.new outbox.new log.new) result }
@@ -148,7 +144,7 @@ fn receive(
         return receive_stored(state, store, log, at, caller, b);
     }
     let found = front(state, SENDING, b.word());
-    let MaybeTask::Task(s) = found else {
+    let Some(s) = found else {
         return wait_to_receive(state, log, at, caller, b, timeout);
     };
     receive_sent(state, outbox, log, at, caller, s)
@@ -156,7 +152,7 @@ fn receive(
 
 // The field names a buffer, since nothing refuses the call.
 pub fn rcv_mbf(
-    state: &mut [u32],
+    state: &mut Words,
     store: &mut [u8],
     outbox: &mut [u8],
     log: &mut [u8],
@@ -165,14 +161,13 @@ pub fn rcv_mbf(
     buffer: i32,
     timeout: i32,
 ) -> Reply
-    requires state_len { length state.old ≡ word_count }
     requires caller_value { caller.0 ≡ running (kernel state.old) }
     requires timeout_value { first_refusal (rcv_mbf_refusals (kernel state.old) buffer timeout) ≡ none }
     requires answerable { Answerable (number buffer) store.old }
     ensures { Carries caller.0 (λ w. rcv_mbf w (number buffer) timeout) (areas state.old store.old outbox.old log.old) at (areas state.new store.new outbox.new log.new) result }
 {
     let found = BufferNumber::from_field(buffer);
-    let MaybeBuffer::Buffer(b) = found else {
+    let Some(b) = found else {
         return Reply {
             answer: Answer::Code(E_OK),
             next: at,

@@ -9,11 +9,13 @@ ghost use Rattle.model.specs.Message.{handed};
 ghost use Rattle.model.specs.Act.{fits};
 ghost use Rattle.model.specs.Refusal.{dirty_tail, first_refusal, storable as storable_in, send_waits, snd_mbf_refusals};
 ghost use Rattle.model.specs.Effect.{snd_mbf};
+ghost use Rattle.model.specs.Errors.{refusal_of};
 ghost use Rattle.model.specs.Words.{word_count, kernel};
 ghost use Rattle.act.specs.Held.{areas};
-ghost use Rattle.reply.specs.Replies.{verdict, Carries, CarriesInStore, CarriesInLog};
+ghost use Rattle.reply.specs.Replies.{Carries, CarriesInStore, CarriesInLog};
 ghost use Rattle.buffer.specs.Branches.{sent_over, sent_in, send_waiting};
 
+use state::layout::Words;
 use super::create::LONGEST_MESSAGE;
 use act::wait::{end_wait_message, wait};
 use areas::bytes::{all_zero, behind, first};
@@ -21,12 +23,12 @@ use message::copy::least;
 use message::outbox::outbox_put;
 use message::room::room;
 use model::call::Answer;
-use model::code::{E_ID, E_NOEXS, E_OK, E_PAR, E_TMOUT};
-use model::number::{BufferNumber, MaybeBuffer, MaybeTask, TaskNumber, natural};
+use model::code::{E_OK, Error};
+use model::number::{BufferNumber, TaskNumber, natural};
 use model::sizes::MESSAGE_BYTES;
 use queue::front::{front, would_head};
 use reply::field::{bad_timeout, code, no_time, outside};
-use reply::{Reply, Verdict};
+use reply::Reply;
 use script::log::log_answer;
 use script::place::put;
 use state::buffer::{exists, maxmsz};
@@ -34,9 +36,8 @@ use state::task::{RECEIVING, SENDING};
 use transfer::store::store_message;
 
 // "if the caller would head the senders and it fits".
-fn storable(state: &[u32], caller: TaskNumber, b: BufferNumber, n: u32) -> bool
-    requires state_len { length state.now ≡ word_count }
-    requires caller_value { caller.0 ≡ running (kernel state.now) }
+fn storable(state: &Words, caller: TaskNumber, b: BufferNumber, n: u32) -> bool
+    requires { caller.0 ≡ running (kernel state.now) }
     ensures { result ≡ storable_in (kernel state.now) b.0 n }
 {
     if !would_head(state, SENDING, b.word(), caller) {
@@ -48,15 +49,14 @@ fn storable(state: &[u32], caller: TaskNumber, b: BufferNumber, n: u32) -> bool
 }
 
 // Neither a receiver nor the buffer takes it.
-fn send_waits(state: &[u32], caller: TaskNumber, b: BufferNumber, n: u32) -> bool
-    requires state_len { length state.now ≡ word_count }
-    requires caller_value { caller.0 ≡ running (kernel state.now) }
+fn send_waits(state: &Words, caller: TaskNumber, b: BufferNumber, n: u32) -> bool
+    requires { caller.0 ≡ running (kernel state.now) }
     ensures { result ≡ send_waits (kernel state.now) b.0 n }
 {
     let found = front(state, RECEIVING, b.word());
     match found {
-        MaybeTask::Task(_) => false,
-        MaybeTask::Nothing => !storable(state, caller, b, n),
+        Some(_) => false,
+        None => !storable(state, caller, b, n),
     }
 }
 
@@ -70,46 +70,45 @@ fn dirty_tail(msgsz: i32, message: &[u8]) -> bool
 }
 
 pub fn refuse_snd_mbf(
-    state: &[u32],
+    state: &Words,
     caller: TaskNumber,
     buffer: i32,
     msgsz: i32,
     timeout: i32,
     message: &[u8],
-) -> Verdict
-    requires state_len { length state.now ≡ word_count }
-    requires caller_value { caller.0 ≡ running (kernel state.now) }
-    ensures { result ≡ verdict (first_refusal (snd_mbf_refusals (kernel state.now) buffer msgsz timeout (handed message.now))) }
+) -> Result<(), Error>
+    requires { caller.0 ≡ running (kernel state.now) }
+    ensures { refusal_of result ≡ first_refusal (snd_mbf_refusals (kernel state.now) buffer msgsz timeout (handed message.now)) }
 {
     if bad_timeout(timeout) {
-        return Verdict::Refused(E_PAR);
+        return Err(Error::Par);
     }
     if msgsz <= 0 {
-        return Verdict::Refused(E_PAR);
+        return Err(Error::Par);
     }
     if dirty_tail(msgsz, message) {
-        return Verdict::Refused(E_PAR);
+        return Err(Error::Par);
     }
     let found = BufferNumber::from_field(buffer);
-    let MaybeBuffer::Buffer(b) = found else {
-        return Verdict::Refused(E_ID);
+    let Some(b) = found else {
+        return Err(Error::Id);
     };
     if exists(state, b) == 0 {
-        return Verdict::Refused(E_NOEXS);
+        return Err(Error::Noexs);
     }
     let n = natural(msgsz);
     if maxmsz(state, b) < n {
-        return Verdict::Refused(E_PAR);
+        return Err(Error::Par);
     }
     if no_time(timeout, send_waits(state, caller, b, n)) {
-        return Verdict::Refused(E_TMOUT);
+        return Err(Error::Tmout);
     }
-    Verdict::Allowed
+    Ok(())
 }
 
 // To the first receiver: its wait ends with the message's length.
 fn hand_over(
-    state: &mut [u32],
+    state: &mut Words,
     outbox: &mut [u8],
     log: &mut [u8],
     at: usize,
@@ -117,8 +116,7 @@ fn hand_over(
     r: TaskNumber,
     m: &[u8],
 ) -> Reply
-    requires state_len { length state.old ≡ word_count }
-    requires m_len_bound { length m.now ≤ message_bytes }
+    requires { length m.now ≤ message_bytes }
     ensures { CarriesInLog caller.0 (sent_over r.0 m.now) state.old outbox.old log.old at state.new outbox.new log.new result }
 {
     let answer = Answer::Code(E_OK);
@@ -133,7 +131,7 @@ fn hand_over(
 
 // Into the buffer.
 fn keep(
-    state: &mut [u32],
+    state: &mut Words,
     store: &mut [u8],
     log: &mut [u8],
     at: usize,
@@ -141,8 +139,7 @@ fn keep(
     b: BufferNumber,
     m: &[u8],
 ) -> Reply
-    requires state_len { length state.old ≡ word_count }
-    requires m_value { fits (kernel state.old) b.0 (length m.now) ≡ true }
+    requires { fits (kernel state.old) b.0 (length m.now) ≡ true }
     ensures { CarriesInStore caller.0 (sent_in b.0 m.now) state.old store.old log.old at state.new store.new log.new result }
 {
     let answer = Answer::Code(E_OK);
@@ -156,7 +153,7 @@ fn keep(
 
 // "A waiting sender's bytes lie at the start of its part of the bay."
 fn wait_to_send(
-    state: &mut [u32],
+    state: &mut Words,
     outbox: &mut [u8],
     log: &mut [u8],
     at: usize,
@@ -165,8 +162,7 @@ fn wait_to_send(
     m: &[u8],
     timeout: i32,
 ) -> Reply
-    requires state_len { length state.old ≡ word_count }
-    requires m_len_bound { length m.now ≤ message_bytes }
+    requires { length m.now ≤ message_bytes }
     ensures { CarriesInLog caller.0 (send_waiting caller.0 b.0 m.now timeout) state.old outbox.old log.old at state.new outbox.new log.new result }
 {
     let answer = Answer::Waits;
@@ -181,7 +177,7 @@ fn wait_to_send(
 
 // Nobody receives: "if the caller would head the senders and it fits, stored; else wait".
 fn keep_or_wait(
-    state: &mut [u32],
+    state: &mut Words,
     store: &mut [u8],
     outbox: &mut [u8],
     log: &mut [u8],
@@ -191,7 +187,6 @@ fn keep_or_wait(
     m: &[u8],
     timeout: i32,
 ) -> Reply
-    requires state_len { length state.old ≡ word_count }
     requires caller_value { caller.0 ≡ running (kernel state.old) }
     requires m_len_bound { length m.now ≤ message_bytes }
     requires b_value { queue_front (kernel state.old) (queue receiving b.0) ≡ 0 }
@@ -205,7 +200,7 @@ fn keep_or_wait(
 
 // A message is sent to a buffer.
 fn send(
-    state: &mut [u32],
+    state: &mut Words,
     store: &mut [u8],
     outbox: &mut [u8],
     log: &mut [u8],
@@ -215,13 +210,12 @@ fn send(
     m: &[u8],
     timeout: i32,
 ) -> Reply
-    requires state_len { length state.old ≡ word_count }
     requires caller_value { caller.0 ≡ running (kernel state.old) }
     requires m_len_bound { length m.now ≤ message_bytes }
     ensures { Carries caller.0 (λ w. snd_mbf w b.0 m.now timeout) (areas state.old store.old outbox.old log.old) at (areas state.new store.new outbox.new log.new) result }
 {
     let found = front(state, RECEIVING, b.word());
-    let MaybeTask::Task(r) = found else {
+    let Some(r) = found else {
         return keep_or_wait(state, store, outbox, log, at, caller, b, m, timeout);
     };
     hand_over(state, outbox, log, at, caller, r, m)
@@ -230,7 +224,7 @@ fn send(
 // "Only the first msgsz of the 32 bytes count": they are sent from where they lie; where fewer are handed over, zeros stand for the others. The field
 // names a buffer, since nothing refuses the call.
 pub fn snd_mbf(
-    state: &mut [u32],
+    state: &mut Words,
     store: &mut [u8],
     outbox: &mut [u8],
     log: &mut [u8],
@@ -241,13 +235,12 @@ pub fn snd_mbf(
     timeout: i32,
     message: &[u8],
 ) -> Reply
-    requires state_len { length state.old ≡ word_count }
     requires caller_value { caller.0 ≡ running (kernel state.old) }
     requires message_value { first_refusal (snd_mbf_refusals (kernel state.old) buffer msgsz timeout (handed message.now)) ≡ none }
     ensures { Carries caller.0 (λ w. snd_mbf w (number buffer) (take (number msgsz) (handed message.now)) timeout) (areas state.old store.old outbox.old log.old) at (areas state.new store.new outbox.new log.new) result }
 {
     let found = BufferNumber::from_field(buffer);
-    let MaybeBuffer::Buffer(b) = found else {
+    let Some(b) = found else {
         return Reply {
             answer: Answer::Code(E_OK),
             next: at,

@@ -4,18 +4,20 @@ ghost use Rattle.model.specs.Number.{maybe_task};
 ghost use Rattle.model.specs.World.{running};
 ghost use Rattle.model.specs.Refusal.{first_refusal, refusals};
 ghost use Rattle.model.specs.Effect.{perform};
+ghost use Rattle.model.specs.Errors.{refusal_of};
 ghost use Rattle.model.specs.Words.{word_count, kernel};
 ghost use Rattle.act.specs.Held.{areas};
-ghost use Rattle.reply.specs.Replies.{verdict, Carries};
+ghost use Rattle.reply.specs.Replies.{Carries};
 ghost use Rattle.call.specs.Steps.{Allowed, is_tick};
 
+use state::layout::Words;
 use buffer::create::{cre_mbf, refuse_cre_mbf};
 use buffer::delete::{del_mbf, refuse_del_mbf};
 use buffer::receive::{rcv_mbf, refuse_rcv_mbf};
 use buffer::send::{refuse_snd_mbf, snd_mbf};
 use model::call::Call;
-use model::code::E_CTX;
-use model::number::{MaybeTask, TaskNumber};
+use model::code::Error;
+use model::number::TaskNumber;
 use mutex::create::{cre_mtx, refuse_cre_mtx};
 use mutex::delete::{del_mtx, refuse_del_mtx};
 use mutex::lock::{loc_mtx, refuse_loc_mtx};
@@ -24,24 +26,23 @@ use pool::create::{cre_mpf, refuse_cre_mpf};
 use pool::delete::{del_mpf, refuse_del_mpf};
 use pool::get::{get_mpf, refuse_get_mpf};
 use pool::release::{refuse_rel_mpf, rel_mpf};
-use reply::{Reply, Verdict};
+use reply::Reply;
 use task::change::{chg_pri, refuse_chg_pri};
 use task::create::{cre_tsk, del_tsk, refuse_cre_tsk, refuse_not_dormant};
 use task::run::{ext_tsk, refuse_ter_tsk, sta_tsk, ter_tsk};
 use time::tick;
 
 // The refusals of a call where a task runs. A function for each call, so it is as long as the table.
-fn refuse_made(state: &[u32], caller: TaskNumber, call: Call, message: &[u8]) -> Verdict
-    requires state_len { length state.now ≡ word_count }
+fn refuse_made(state: &Words, caller: TaskNumber, call: Call, message: &[u8]) -> Result<(), Error>
     requires caller_value { caller.0 ≡ running (kernel state.now) }
     requires le_caller { 1 ≤ caller.0 }
-    ensures { result ≡ verdict (first_refusal (refusals (kernel state.now) call message.now)) }
+    ensures { refusal_of result ≡ first_refusal (refusals (kernel state.now) call message.now) }
 {
     match call {
         Call::CreTsk { priority } => refuse_cre_tsk(state, priority),
         Call::DelTsk { task } => refuse_not_dormant(state, task),
         Call::StaTsk { task } => refuse_not_dormant(state, task),
-        Call::ExtTsk => Verdict::Allowed,
+        Call::ExtTsk => Ok(()),
         Call::TerTsk { task } => refuse_ter_tsk(state, caller, task),
         Call::ChgPri { task, priority } => refuse_chg_pri(state, caller, task, priority),
         Call::CreMtx { attribute, ceiling } => refuse_cre_mtx(state, attribute, ceiling),
@@ -68,7 +69,7 @@ fn refuse_made(state: &[u32], caller: TaskNumber, call: Call, message: &[u8]) ->
         Call::DelMpf { pool } => refuse_del_mpf(state, pool),
         Call::GetMpf { pool, timeout } => refuse_get_mpf(state, pool, timeout),
         Call::RelMpf { pool, block } => refuse_rel_mpf(state, pool, block),
-        Call::Tick => Verdict::Allowed,
+        Call::Tick => Ok(()),
     }
 }
 
@@ -83,23 +84,22 @@ fn is_tick(call: Call) -> bool
 }
 
 // Order 2: "no task runs and the call is not tick"; then the call's own.
-pub(crate) fn refuse(state: &[u32], caller: MaybeTask, call: Call, message: &[u8]) -> Verdict
-    requires state_len { length state.now ≡ word_count }
-    requires caller_value { caller ≡ maybe_task (running (kernel state.now)) }
-    ensures { result ≡ verdict (first_refusal (refusals (kernel state.now) call message.now)) }
+pub(crate) fn refuse(state: &Words, caller: Option<TaskNumber>, call: Call, message: &[u8]) -> Result<(), Error>
+    requires { caller ≡ maybe_task (running (kernel state.now)) }
+    ensures { refusal_of result ≡ first_refusal (refusals (kernel state.now) call message.now) }
 {
-    let MaybeTask::Task(t) = caller else {
+    let Some(t) = caller else {
         if is_tick(call) {
-            return Verdict::Allowed;
+            return Ok(());
         }
-        return Verdict::Refused(E_CTX);
+        return Err(Error::Ctx);
     };
     refuse_made(state, t, call, message)
 }
 
 // The effect of a call where a task runs. It is as long as the table of calls.
 fn perform_made(
-    state: &mut [u32],
+    state: &mut Words,
     store: &mut [u8],
     outbox: &mut [u8],
     log: &mut [u8],
@@ -153,11 +153,11 @@ fn perform_made(
 
 // Where no task runs, the call is a tick: every other is refused.
 pub(crate) fn carry_out(
-    state: &mut [u32],
+    state: &mut Words,
     store: &mut [u8],
     outbox: &mut [u8],
     log: &mut [u8],
-    caller: MaybeTask,
+    caller: Option<TaskNumber>,
     call: Call,
     message: &[u8],
 ) -> Reply
@@ -165,7 +165,7 @@ pub(crate) fn carry_out(
     requires caller_value { caller ≡ maybe_task (running (kernel state.old)) }
     ensures { Carries (running (kernel state.old)) (λ w. perform w call message.now) (areas state.old store.old outbox.old log.old) 0 (areas state.new store.new outbox.new log.new) result }
 {
-    let MaybeTask::Task(t) = caller else {
+    let Some(t) = caller else {
         return tick(state, outbox, log, 0);
     };
     perform_made(state, store, outbox, log, t, call, message)

@@ -10,7 +10,7 @@ ghost use Rattle.call.specs.Calls.{Answers, NotValid};
 
 use model::call::{Answer, Call};
 use model::code::E_SYS;
-use model::number::MaybeTask;
+
 use model::sizes::LOG_BYTES;
 use queue::next::next_to_run;
 use script::log::{log_answer, log_runs};
@@ -32,7 +32,7 @@ fn not_valid(log: &mut [u8]) -> Called
     let at = log_answer(log, 0, answer);
     Called {
         answer: answer,
-        written: log_runs(log, at, MaybeTask::Nothing),
+        written: log_runs(log, at, None),
     }
 }
 
@@ -56,8 +56,12 @@ pub fn call(
     if !is_valid(state, store, outbox) {
         return not_valid(log);
     }
-    let runs = next_to_run(state);
-    let step = valid_step(state, store, outbox, log, runs, call, message);
+    // a valid state has as many words as a state has
+    let Some(words) = state.as_mut_array() else {
+        return not_valid(log);
+    };
+    let runs = next_to_run(words);
+    let step = valid_step(words, store, outbox, log, runs, call, message);
     let answer = step.answer;
     Called {
         answer: answer,

@@ -6,11 +6,12 @@ ghost use Rattle.model.specs.Words.{kernel};
 ghost use Rattle.act.specs.Held.{areas};
 ghost use Rattle.call.specs.Steps.{Ready, Steps};
 
+use state::layout::Words;
 use super::dispatch::{carry_out, refuse};
 use model::call::{Answer, Call};
-use model::number::MaybeTask;
+use model::number::TaskNumber;
 use queue::next::next_to_run;
-use reply::{Reply, Verdict};
+use reply::Reply;
 use script::log::{log_answer, log_runs};
 use transfer::drain::drain;
 
@@ -19,16 +20,16 @@ use transfer::drain::drain;
 pub struct Step {
     pub answer: Answer,
     pub written: usize,
-    pub runs: MaybeTask,
+    pub runs: Option<TaskNumber>,
 }
 
 // The call is carried out.
 fn carried(
-    state: &mut [u32],
+    state: &mut Words,
     store: &mut [u8],
     outbox: &mut [u8],
     log: &mut [u8],
-    caller: MaybeTask,
+    caller: Option<TaskNumber>,
     call: Call,
     message: &[u8],
 ) -> Step
@@ -48,11 +49,11 @@ fn carried(
 
 // The task that runs is handed over and handed back, so that it need not be looked for at each call of many.
 pub fn valid_step(
-    state: &mut [u32],
+    state: &mut Words,
     store: &mut [u8],
     outbox: &mut [u8],
     log: &mut [u8],
-    caller: MaybeTask,
+    caller: Option<TaskNumber>,
     call: Call,
     message: &[u8],
 ) -> Step
@@ -60,10 +61,10 @@ pub fn valid_step(
     ensures { Steps (areas state.old store.old outbox.old log.old) call message.now (areas state.new store.new outbox.new log.new) result }
 {
     let found = refuse(state, caller, call, message);
-    let Verdict::Refused(code) = found else {
+    let Err(error) = found else {
         return carried(state, store, outbox, log, caller, call, message);
     };
-    let answer = Answer::Code(code);
+    let answer = Answer::Code(error.code());
     let at = log_answer(log, 0, answer);
     Step {
         answer: answer,

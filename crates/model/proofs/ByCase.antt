@@ -10,7 +10,6 @@ use lib.IntN.{ℤ, pos}
 use borrow.Author.Tests.{eq-eqb, ne_eqb, lt-ltb, le-ltb, le-leb, lt-leb}
 use Rattle.model.specs.declared.call.Call.{Call}
 use Rattle.model.specs.declared.call.Cursor.{Cursor}
-use Rattle.model.specs.declared.call.Read.TheVariants.{Record, Stop}
 use Rattle.model.specs.declared.call.Progress.TheVariants.{NoArea}
 use Rattle.model.specs.Sizes.{endless, log_bytes, script_bytes}
 use Rattle.model.specs.Lists.{◌!◌, first_where}
@@ -25,7 +24,7 @@ use Rattle.model.specs.Refusal.{Refusal, first_refusal, refusals, lock_waits, st
 use Rattle.model.specs.Effect.{effect, arrives_anew, rejoin, tick_task, loc_mtx, snd_mbf, get_mpf, rel_mpf, waits, succeeds, answered}
 use Rattle.model.specs.Valid.{valid}
 use Rattle.model.specs.Step.{carried_out, refused, valid_step, step}
-use Rattle.model.specs.Record.{read_record, record_message}
+use Rattle.model.specs.Record.{found, stopped, read_record, record_message}
 use Rattle.model.specs.Log.{stop_bytes, too_long_bytes, outcome_log}
 use Rattle.model.specs.Lent.{Areas, lent, is_valid, not_valid, untouched, returned, lent_step, script_over, went, lent_record}
 use Rattle.model.specs.Script.{ran, log_then, run_from, run, run_script}
@@ -227,11 +226,11 @@ module _ (a : Areas) (script : List ℕ) (at : ℕ) where
       record-end h = rw (eq-eqb _ _ log, le-ltb _ _ short, le-leb _ _ h)
 
       module _ (inside : at < length script) where
-        pub record-stops : {offset : ℕ} → read_record script at ≡ Stop offset → lent_record a script at ≡ script_over a (stop_bytes offset)
+        pub record-stops : {offset : ℕ} → read_record script at ≡ stopped offset → lent_record a script at ≡ script_over a (stop_bytes offset)
         unfolding lent_record
         record-stops e = rw (eq-eqb _ _ log, le-ltb _ _ short, lt-leb _ _ inside, e)
 
-        pub record-runs : {c : Call} {next : Cursor} → read_record script at ≡ Record c next
+        pub record-runs : {c : Call} {next : Cursor} → read_record script at ≡ found c next
             → lent_record a script at ≡ went (lent_step a c (record_message script at)) next.at
         unfolding lent_record
         record-runs e = rw (eq-eqb _ _ log, le-ltb _ _ short, lt-leb _ _ inside, e)
@@ -243,10 +242,10 @@ module _ (n : ℕ) (x : Lent) (script : List ℕ) (at : ℕ) where
   run-over h = rw (le-leb (length script) at h, run_from)
 
   module _ (inside : at < length script) where
-    pub run-stops : {offset : ℕ} → read_record script at ≡ Stop offset → run_from (suc n) x script at ≡ ran (stop_bytes offset) x
+    pub run-stops : {offset : ℕ} → read_record script at ≡ stopped offset → run_from (suc n) x script at ≡ ran (stop_bytes offset) x
     run-stops e = rw (lt-leb (length script) at inside, e, run_from)
 
-    pub run-goes-on : {c : Call} {next : Cursor} → read_record script at ≡ Record c next
+    pub run-goes-on : {c : Call} {next : Cursor} → read_record script at ≡ found c next
         → run_from (suc n) x script at
         ≡ log_then (outcome_log (running x.kernel) (step x c (record_message script at))) (run_from n (step x c (record_message script at)).lent script next.at)
     run-goes-on e = rw (lt-leb (length script) at inside, e, run_from)

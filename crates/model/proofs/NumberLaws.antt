@@ -16,20 +16,16 @@ use Rattle.model.specs.Sizes.{tasks, mutexes, buffers, pools}
 use Rattle.model.specs.Lists.{◌!◌}
 use Rattle.model.specs.Kernel.{numbered}
 use Rattle.model.specs.Code.{number, number4}
-use Rattle.model.specs.Number.{word_number, field_number, maybe_task, maybe_mutex, maybe_buffer, maybe_pool}
+use Rattle.model.specs.Number.{TaskNumber, MutexNumber, BufferNumber, PoolNumber, word_number, field_number, numbered_as, maybe_number, maybe_task, maybe_mutex}
 use Rattle.model.specs.Refusal.{outside}
 use Rattle.model.specs.Valid.{From}
 use Rattle.model.proofs.ListLaws.{or_right}
-use Rattle.model.specs.declared.number.TaskNumber.{TaskNumber}
-use Rattle.model.specs.declared.number.MaybeTask.{MaybeTask}
-use Rattle.model.specs.declared.number.MaybeTask.TheVariants.{Task, Nothing as NoTask}
-use Rattle.model.specs.declared.number.MutexNumber.{MutexNumber}
-use Rattle.model.specs.declared.number.MaybeMutex.{MaybeMutex}
-use Rattle.model.specs.declared.number.MaybeMutex.TheVariants.{Mutex, Nothing as NoMutex}
-use Rattle.model.specs.declared.number.MaybeBuffer.{MaybeBuffer}
-use Rattle.model.specs.declared.number.MaybeBuffer.TheVariants.{Buffer, Nothing as NoBuffer}
-use Rattle.model.specs.declared.number.MaybePool.{MaybePool}
-use Rattle.model.specs.declared.number.MaybePool.TheVariants.{Pool, Nothing as NoPool}
+use Rattle.std.specs.Prelude.{Option, Some, None}
+use Rattle.model.specs.declared.number.Number.{Number}
+use Rattle.model.specs.declared.number.Task.{Task}
+use Rattle.model.specs.declared.number.Mutex.{Mutex}
+use Rattle.model.specs.declared.number.Buffer.{Buffer}
+use Rattle.model.specs.declared.number.Pool.{Pool}
 
 -- four bytes give the number that they were made of
 pub number4-bytes4 : (n : ℕ) → n < 2 ^ 32 → number4 (n % 256) (n / 256 % 256) (n / 65536 % 256) (n / 16777216 % 256) ≡ n
@@ -182,58 +178,54 @@ module _ {A : Type 0} (kind : Kind A) {found : A} where
         go (inl z) = omega arith
         go (inr l) = omega arith
 
-abbrev pub number_kind : {A : Type 0} (last : ℕ) (none : A) (some make : ℕ → A) → ((n : ℕ) → make n ≡ cond (eqb n 0) none (some n))
-    → (code : A → ℕ) → code none ≡ 0 → ((n : ℕ) → code (some n) ≡ suc n) → Kind A
-number_kind last none some make made code a b =
-    record { last = last; none = none; some = some; make = make; made = made; code = code; none-code = a; some-code = b }
+pub number-made : {K : Type 0} (n : ℕ) → maybe_number {K = K} n ≡ cond (eqb n 0) None (Some (numbered_as n))
+unfolding maybe_number
+number-made n = refl
 
-pub task-made : (n : ℕ) → maybe_task n ≡ cond (eqb n 0) NoTask (Task (record { 0 = n }))
-unfolding maybe_task
-task-made n = refl
+abbrev pub number_kind : (K : Type 0) (last : ℕ) → Kind (Option (Number K))
+number_kind K last =
+    record {
+      last = last;
+      none = None;
+      some = λ n. Some (numbered_as n);
+      make = maybe_number;
+      made = number-made;
+      code = λ x. elim x [ None ↦ 0 | Some n ↦ suc n.0 ];
+      none-code = refl;
+      some-code = λ n. refl;
+    }
 
-abbrev pub task_kind : Kind MaybeTask
-task_kind = number_kind tasks NoTask (λ n. Task (record { 0 = n })) maybe_task task-made (λ x. elim x [ NoTask ↦ 0 | Task n ↦ suc n.0 ]) refl (λ n. refl)
+abbrev pub task_kind : Kind (Option TaskNumber)
+task_kind = number_kind Task tasks
 
-pub mutex-made : (n : ℕ) → maybe_mutex n ≡ cond (eqb n 0) NoMutex (Mutex (record { 0 = n }))
-unfolding maybe_mutex
-mutex-made n = refl
+abbrev pub mutex_kind : Kind (Option MutexNumber)
+mutex_kind = number_kind Mutex mutexes
 
-abbrev pub mutex_kind : Kind MaybeMutex
-mutex_kind = number_kind mutexes NoMutex (λ n. Mutex (record { 0 = n })) maybe_mutex mutex-made (λ x. elim x [ NoMutex ↦ 0 | Mutex n ↦ suc n.0 ]) refl (λ n. refl)
+abbrev pub buffer_kind : Kind (Option BufferNumber)
+buffer_kind = number_kind Buffer buffers
 
-pub buffer-made : (n : ℕ) → maybe_buffer n ≡ cond (eqb n 0) NoBuffer (Buffer (record { 0 = n }))
-unfolding maybe_buffer
-buffer-made n = refl
-
-abbrev pub buffer_kind : Kind MaybeBuffer
-buffer_kind = number_kind buffers NoBuffer (λ n. Buffer (record { 0 = n })) maybe_buffer buffer-made (λ x. elim x [ NoBuffer ↦ 0 | Buffer n ↦ suc n.0 ]) refl (λ n. refl)
-
-pub pool-made : (n : ℕ) → maybe_pool n ≡ cond (eqb n 0) NoPool (Pool (record { 0 = n }))
-unfolding maybe_pool
-pool-made n = refl
-
-abbrev pub pool_kind : Kind MaybePool
-pool_kind = number_kind pools NoPool (λ n. Pool (record { 0 = n })) maybe_pool pool-made (λ x. elim x [ NoPool ↦ 0 | Pool n ↦ suc n.0 ]) refl (λ n. refl)
+abbrev pub pool_kind : Kind (Option PoolNumber)
+pool_kind = number_kind Pool pools
 
 -- ---- the same, each kind by its name
 
-pub task-is : (n : ℕ) (x : TaskNumber) → maybe_task n ≡ Task x → (x.0 ≡ n) × (n ≢ 0)
+pub task-is : (n : ℕ) (x : TaskNumber) → maybe_task n ≡ Some x → (x.0 ≡ n) × (n ≢ 0)
 task-is n x e = is_some task_kind refl e
 
-pub task-is-none : (n : ℕ) → maybe_task n ≡ NoTask → n ≡ 0
+pub task-is-none : (n : ℕ) → maybe_task n ≡ None → n ≡ 0
 task-is-none n e = is_none task_kind refl e
 
-pub task-zero : (n : ℕ) → n ≡ 0 → maybe_task n ≡ NoTask
-task-zero n e = task-made n ∙ rw (eq-eqb n 0 e)
+pub task-zero : (n : ℕ) → n ≡ 0 → maybe_task n ≡ None
+task-zero n e = number-made n ∙ rw (eq-eqb n 0 e)
 
-pub task-there : (u : ℕ) (x : TaskNumber) → maybe_task (word_number u tasks) ≡ Task x → Names tasks u x.0
+pub task-there : (u : ℕ) (x : TaskNumber) → maybe_task (word_number u tasks) ≡ Some x → Names tasks u x.0
 task-there u x e = named task_kind refl e
 
-pub task-none : (u : ℕ) → maybe_task (word_number u tasks) ≡ NoTask → NamesNone tasks u
+pub task-none : (u : ℕ) → maybe_task (word_number u tasks) ≡ None → NamesNone tasks u
 task-none u e = unnamed task_kind refl e
 
-pub mutex-there : (u : ℕ) (x : MutexNumber) → maybe_mutex (word_number u mutexes) ≡ Mutex x → Names mutexes u x.0
+pub mutex-there : (u : ℕ) (x : MutexNumber) → maybe_mutex (word_number u mutexes) ≡ Some x → Names mutexes u x.0
 mutex-there u x e = named mutex_kind refl e
 
-pub mutex-none : (u : ℕ) → maybe_mutex (word_number u mutexes) ≡ NoMutex → NamesNone mutexes u
+pub mutex-none : (u : ℕ) → maybe_mutex (word_number u mutexes) ≡ None → NamesNone mutexes u
 mutex-none u e = unnamed mutex_kind refl e

@@ -4,7 +4,7 @@ use Rattle.std.proofs.Math.Option.{Option, none, some}
 use Rattle.model.specs.declared.call.Call.{Call}
 use Rattle.model.specs.declared.call.Answer.{Answer}
 use Rattle.model.specs.declared.call.Answer.TheVariants.{Code}
-use Rattle.model.specs.declared.call.Read.TheVariants.{Record, Stop}
+use Rattle.std.specs.Prelude.{Ok, Err}
 use Rattle.model.specs.declared.call.Progress.{Progress}
 use Rattle.model.specs.declared.call.Progress.TheVariants.{Answered, Over, NoArea}
 use Rattle.model.specs.Sizes.{log_bytes, script_bytes}
@@ -98,8 +98,8 @@ lent_record a script at =
     (cond (ltb script_bytes (length script)) (script_over a too_long_bytes)
     (cond (leb (length script) at) (script_over a [])
     (elim (read_record script at) [
-      | Stop offset ↦ script_over a (stop_bytes offset)
-      | Record c next ↦ went (lent_step a c (record_message script at)) next.at
+      | Err stop ↦ script_over a (stop_bytes stop.offset)
+      | Ok r ↦ went (lent_step a r.call (record_message script at)) r.next.at
     ])))
     (record { progress = NoArea; written = 0; areas = a })
 

@@ -4,6 +4,7 @@ pub mod Flags
 pub mod Bits
 pub mod Number
 pub mod Code
+pub mod Errors
 pub mod Facts
 pub mod Priority
 pub mod Queue

@@ -1,14 +1,14 @@
 -- 01, "The script and the log": a record is one byte of kind, then a body whose length the kind fixes. One table of kinds serves
 -- reader and writer.
-use Rattle.std.specs.Prelude.{ℕ, suc, ◌+◌, ◌*◌, ◌-◌, ◌^◌, ◌<◌, true, false, List, [], ◌∷◌, ◌++◌, map, length, take, drop, ℤ, eqb, leb}
+use Rattle.std.specs.Prelude.{ℕ, suc, ◌+◌, ◌*◌, ◌-◌, ◌^◌, ◌<◌, true, false, List, [], ◌∷◌, ◌++◌, map, length, take, drop, ℤ, eqb, leb, Some, None, Result, Ok, Err}
+use Rattle.std.specs.Prelude as code
 use Rattle.std.proofs.Math.Option.{Option, none, some}
 use Rattle.std.specs.Int.Signed.{mag}
 use Rattle.model.specs.declared.call.Call.{Call}
 use Rattle.model.specs.declared.call.Call.TheVariants.{CreTsk, DelTsk, StaTsk, ExtTsk, TerTsk, ChgPri, CreMtx, DelMtx, LocMtx, UnlMtx, CreMbf, DelMbf, SndMbf, RcvMbf, CreMpf, DelMpf, GetMpf, RelMpf, Tick}
-use Rattle.model.specs.declared.kind.BodyLength.{BodyLength}
-use Rattle.model.specs.declared.kind.BodyLength.TheVariants.{Bytes, Unknown}
-use Rattle.model.specs.declared.call.Read.{Read}
-use Rattle.model.specs.declared.call.Read.TheVariants.{Record, Stop}
+use Rattle.model.specs.declared.call.Cursor.{Cursor}
+use Rattle.model.specs.declared.call.Record.{Record}
+use Rattle.model.specs.declared.call.Stop.{Stop}
 use Rattle.model.specs.Lists.{joined, ◌!◌}
 use Rattle.model.specs.Code.{number4, signed, code_bytes}
 
@@ -59,30 +59,36 @@ unfoldable pub row_of : ℕ → Option Row
 row_of kind = lookup kind kinds
 
 -- the length of a kind's body
-unfoldable pub body_length : ℕ → BodyLength
-body_length kind = elim (row_of kind) [ none ↦ Unknown | some r ↦ Bytes r.body ]
+unfoldable pub body_length : ℕ → code.Option ℕ
+body_length kind = elim (row_of kind) [ none ↦ None | some r ↦ Some r.body ]
 
 -- the number that stands for each case in a table of bytes: 255 where no record has the kind
-abbrev pub body_entry : BodyLength → ℕ
-body_entry (Bytes n) = n
-body_entry Unknown = 255
+abbrev pub body_entry : code.Option ℕ → ℕ
+body_entry (Some n) = n
+body_entry None = 255
 
 -- "Fields are signed 32-bit, least byte first."
 unfoldable pub field : List ℕ → ℕ → ℤ
 field body i = signed (number4 (body ! (4 * i)) (body ! (4 * i + 1)) (body ! (4 * i + 2)) (body ! (4 * i + 3)))
 
 -- "A record is read or the script stops there": what stands first in the bytes from an offset on
-unfoldable pub read_here : ℕ → List ℕ → Read
-read_here at [] = Stop at
+abbrev pub found : Call → Cursor → Result Record Stop
+found c next = Ok (record { call = c; next = next })
+
+abbrev pub stopped : ℕ → Result Record Stop
+stopped at = Err (record { offset = at })
+
+unfoldable pub read_here : ℕ → List ℕ → Result Record Stop
+read_here at [] = stopped at
 read_here at (kind ∷ body) =
     elim (row_of kind) [
-      | none ↦ Stop at
+      | none ↦ stopped at
       | some r ↦
           elim (leb r.body (length body))
-          [ true ↦ Record (r.call (field body)) (record { at = suc (at + r.body) }) | false ↦ Stop at ]
+          [ true ↦ found (r.call (field body)) (record { at = suc (at + r.body) }) | false ↦ stopped at ]
     ]
 
-unfoldable pub read_record : List ℕ → ℕ → Read
+unfoldable pub read_record : List ℕ → ℕ → Result Record Stop
 read_record script at = read_here at (drop at script)
 
 -- the bytes of a record's message, where it has one: the 32 of snd_mbf

@@ -1,6 +1,6 @@
 -- 01, "The script and the log": a run of records, and a script.
 use Rattle.std.specs.Prelude.{ℕ, zero, suc, true, false, List, [], ◌++◌, length, leb, ltb}
-use Rattle.model.specs.declared.call.Read.TheVariants.{Record, Stop}
+use Rattle.std.specs.Prelude.{Ok, Err}
 use Rattle.model.specs.Sizes.{script_bytes}
 use Rattle.model.specs.World.{Lent, running}
 use Rattle.model.specs.Step.{fresh_lent, step}
@@ -28,10 +28,10 @@ run_from (suc n) x script at =
       | true ↦ ran [] x
       | false ↦
           elim (read_record script at) [
-            | Stop offset ↦ ran (stop_bytes offset) x
-            | Record c next ↦
-                let o = step x c (record_message script at) in
-                log_then (outcome_log (running x.kernel) o) (run_from n o.lent script next.at)
+            | Err stop ↦ ran (stop_bytes stop.offset) x
+            | Ok r ↦
+                let o = step x r.call (record_message script at) in
+                log_then (outcome_log (running x.kernel) o) (run_from n o.lent script r.next.at)
           ]
     ]
 

@@ -83,11 +83,17 @@ pub struct Cursor {
     pub at: usize,
 }
 
-// What reading a record finds: the call and the place after the record, or that the script stops there.
+// A record: the call, and the place after the record.
 #[derive(Clone, Copy)]
-pub enum Read {
-    Record { call: Call, next: Cursor },
-    Stop { offset: usize },
+pub struct Record {
+    pub call: Call,
+    pub next: Cursor,
+}
+
+// Where a script stops, since no record can be read there.
+#[derive(Clone, Copy)]
+pub struct Stop {
+    pub offset: usize,
 }
 
 // What comes of a script at a place: its record was answered, and the next one stands there; the script is over, at its end or where it

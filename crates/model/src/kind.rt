@@ -60,12 +60,6 @@ const BODIES: [u8; KINDS as usize] = [
     0,
 ];
 
-#[derive(Clone, Copy)]
-pub enum BodyLength {
-    Bytes(usize),
-    Unknown,
-}
-
 fn entry(kind: usize) -> u8
     requires { kind < kind_count }
     ensures { result ≡ body_entry (body_length kind) }
@@ -73,16 +67,13 @@ fn entry(kind: usize) -> u8
     BODIES[kind]
 }
 
-pub fn body_length(kind: u8) -> BodyLength
+// None where no record has the kind.
+pub fn body_length(kind: u8) -> Option<usize>
     ensures { result ≡ body_length kind }
 {
     if KINDS <= kind {
-        return BodyLength::Unknown;
+        return None;
     }
     let n = entry(kind as usize);
-    if n == NO {
-        BodyLength::Unknown
-    } else {
-        BodyLength::Bytes(n as usize)
-    }
+    if n == NO { None } else { Some(n as usize) }
 }

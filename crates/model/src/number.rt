@@ -1,48 +1,67 @@
-// Numbers of tasks, mutexes, buffers and pools, each a type of its own: a mutex number can't stand where a task number
+// Numbers of tasks, mutexes, buffers and pools, one type over the kind of object: a mutex number can't stand where a task number
 // belongs. Only the range checks here make one.
-ghost use Rattle.std.specs.Prelude.{◌≡◌};
+ghost use Rattle.std.specs.Prelude.{◌≡◌, ℕ};
 ghost use Rattle.model.specs.Sizes.{tasks, mutexes, buffers, pools};
 ghost use Rattle.model.specs.Code.{number, low_byte};
-ghost use Rattle.model.specs.Number.{field_number, word_number, maybe_task, task_word, maybe_mutex, maybe_buffer, maybe_pool};
+ghost use Rattle.model.specs.Number.{field_number, word_number, maybe_number, task_word};
 
 use super::sizes::{BUFFERS, MUTEXES, POOLS, TASKS};
+use std::marker::PhantomData;
 
-#[derive(Clone, Copy)]
-pub struct TaskNumber(u32);
+// A kind of object, and the last number that one of the kind can have.
+pub trait Object {
+    ghost LAST: { ℕ };
 
-#[derive(Clone, Copy)]
-pub struct MutexNumber(u32);
-
-#[derive(Clone, Copy)]
-pub struct BufferNumber(u32);
-
-#[derive(Clone, Copy)]
-pub struct PoolNumber(u32);
-
-// What a field of a call or a word of the state names: an object's number, or nothing.
-#[derive(Clone, Copy)]
-pub enum MaybeTask {
-    Task(TaskNumber),
-    Nothing,
+    const LAST: u32;
 }
 
 #[derive(Clone, Copy)]
-pub enum MaybeMutex {
-    Mutex(MutexNumber),
-    Nothing,
-}
+pub struct Task;
 
 #[derive(Clone, Copy)]
-pub enum MaybeBuffer {
-    Buffer(BufferNumber),
-    Nothing,
-}
+pub struct Mutex;
 
 #[derive(Clone, Copy)]
-pub enum MaybePool {
-    Pool(PoolNumber),
-    Nothing,
+pub struct Buffer;
+
+#[derive(Clone, Copy)]
+pub struct Pool;
+
+impl Object for Task {
+    ghost LAST = { tasks };
+
+    const LAST: u32 = TASKS;
 }
+
+impl Object for Mutex {
+    ghost LAST = { mutexes };
+
+    const LAST: u32 = MUTEXES;
+}
+
+impl Object for Buffer {
+    ghost LAST = { buffers };
+
+    const LAST: u32 = BUFFERS;
+}
+
+impl Object for Pool {
+    ghost LAST = { pools };
+
+    const LAST: u32 = POOLS;
+}
+
+// The number of an object of a kind.
+#[derive(Clone, Copy)]
+pub struct Number<K>(u32, PhantomData<K>);
+
+pub type TaskNumber = Number<Task>;
+
+pub type MutexNumber = Number<Mutex>;
+
+pub type BufferNumber = Number<Buffer>;
+
+pub type PoolNumber = Number<Pool>;
 
 // A word that is a number up to the last, else 0.
 fn word_number(n: u32, last: u32) -> u32
@@ -65,145 +84,61 @@ fn field_number(n: i32, last: u32) -> u32
     word_number(natural(n), last)
 }
 
+impl<K: Object> Number<K> {
+    // What a field of a call names: an object's number, or nothing.
+    pub fn from_field(n: i32) -> Option<Number<K>>
+        ensures { result ≡ maybe_number (field_number n K.LAST) }
+    {
+        Number::maybe(field_number(n, K::LAST))
+    }
+
+    // The same of a word of the state.
+    pub fn from_word(n: u32) -> Option<Number<K>>
+        ensures { result ≡ maybe_number (word_number n K.LAST) }
+    {
+        Number::maybe(word_number(n, K::LAST))
+    }
+}
+
+impl<K> Number<K> {
+    // 0 names nothing; a caller has seen that the number is in range.
+    #[tactic(auto, unfolding(crate::specs::Number::maybe_number))]
+    fn maybe(n: u32) -> Option<Number<K>>
+        ensures { result ≡ maybe_number n }
+    {
+        if n == 0 {
+            None
+        } else {
+            Some(Number(n, PhantomData))
+        }
+    }
+
+    pub fn word(self) -> u32
+        ensures { result ≡ self.0 }
+    {
+        self.0
+    }
+}
+
+// A task as a number, 0 for none.
+pub fn task_word(task: Option<TaskNumber>) -> u32
+    ensures { result ≡ task_word task }
+{
+    task.map_or(0, |t| t.word())
+}
+
+// As a log has it, in one byte: 0 for none.
+pub fn task_byte(task: Option<TaskNumber>) -> u8
+    ensures { result ≡ low_byte (task_word task) }
+{
+    (task_word(task) % 256) as u8
+}
+
 impl TaskNumber {
-    pub fn from_field(n: i32) -> MaybeTask
-        ensures { result ≡ maybe_task (field_number n tasks) }
-    {
-        TaskNumber::maybe(field_number(n, TASKS))
-    }
-
-    pub fn from_word(n: u32) -> MaybeTask
-        ensures { result ≡ maybe_task (word_number n tasks) }
-    {
-        TaskNumber::maybe(word_number(n, TASKS))
-    }
-
     // As a log has it, in one byte.
     pub fn byte(self) -> u8
         ensures { result ≡ low_byte self.0 }
     {
         (self.0 % 256) as u8
-    }
-
-    // 0 names nothing; a caller has seen that the number is in range.
-    fn maybe(n: u32) -> MaybeTask
-        ensures { result ≡ maybe_task n }
-    {
-        if n == 0 {
-            MaybeTask::Nothing
-        } else {
-            MaybeTask::Task(TaskNumber(n))
-        }
-    }
-
-    pub fn word(self) -> u32
-        ensures { result ≡ self.0 }
-    {
-        self.0
-    }
-}
-
-impl MaybeTask {
-    // As a log has it, in one byte: 0 for none.
-    pub fn byte(self) -> u8
-        ensures { result ≡ low_byte (task_word self) }
-    {
-        match self {
-            MaybeTask::Task(t) => t.byte(),
-            MaybeTask::Nothing => 0,
-        }
-    }
-}
-
-impl MutexNumber {
-    pub fn from_field(n: i32) -> MaybeMutex
-        ensures { result ≡ maybe_mutex (field_number n mutexes) }
-    {
-        MutexNumber::maybe(field_number(n, MUTEXES))
-    }
-
-    pub fn from_word(n: u32) -> MaybeMutex
-        ensures { result ≡ maybe_mutex (word_number n mutexes) }
-    {
-        MutexNumber::maybe(word_number(n, MUTEXES))
-    }
-
-    // 0 names nothing; a caller has seen that the number is in range.
-    fn maybe(n: u32) -> MaybeMutex
-        ensures { result ≡ maybe_mutex n }
-    {
-        if n == 0 {
-            MaybeMutex::Nothing
-        } else {
-            MaybeMutex::Mutex(MutexNumber(n))
-        }
-    }
-
-    pub fn word(self) -> u32
-        ensures { result ≡ self.0 }
-    {
-        self.0
-    }
-}
-
-impl BufferNumber {
-    pub fn from_field(n: i32) -> MaybeBuffer
-        ensures { result ≡ maybe_buffer (field_number n buffers) }
-    {
-        BufferNumber::maybe(field_number(n, BUFFERS))
-    }
-
-    pub fn from_word(n: u32) -> MaybeBuffer
-        ensures { result ≡ maybe_buffer (word_number n buffers) }
-    {
-        BufferNumber::maybe(word_number(n, BUFFERS))
-    }
-
-    // 0 names nothing; a caller has seen that the number is in range.
-    fn maybe(n: u32) -> MaybeBuffer
-        ensures { result ≡ maybe_buffer n }
-    {
-        if n == 0 {
-            MaybeBuffer::Nothing
-        } else {
-            MaybeBuffer::Buffer(BufferNumber(n))
-        }
-    }
-
-    pub fn word(self) -> u32
-        ensures { result ≡ self.0 }
-    {
-        self.0
-    }
-}
-
-impl PoolNumber {
-    pub fn from_field(n: i32) -> MaybePool
-        ensures { result ≡ maybe_pool (field_number n pools) }
-    {
-        PoolNumber::maybe(field_number(n, POOLS))
-    }
-
-    pub fn from_word(n: u32) -> MaybePool
-        ensures { result ≡ maybe_pool (word_number n pools) }
-    {
-        PoolNumber::maybe(word_number(n, POOLS))
-    }
-
-    // 0 names nothing; a caller has seen that the number is in range.
-    fn maybe(n: u32) -> MaybePool
-        ensures { result ≡ maybe_pool n }
-    {
-        if n == 0 {
-            MaybePool::Nothing
-        } else {
-            MaybePool::Pool(PoolNumber(n))
-        }
-    }
-
-    pub fn word(self) -> u32
-        ensures { result ≡ self.0 }
-    {
-        self.0
     }
 }

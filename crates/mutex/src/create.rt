@@ -5,38 +5,39 @@ ghost use Rattle.model.specs.Code.{number};
 ghost use Rattle.model.specs.Facts.{ceilinged};
 ghost use Rattle.model.specs.Refusal.{first_refusal, cre_mtx_refusals};
 ghost use Rattle.model.specs.Effect.{cre_mtx};
+ghost use Rattle.model.specs.Errors.{refusal_of};
 ghost use Rattle.model.specs.Words.{word_count, kernel};
-ghost use Rattle.reply.specs.Replies.{verdict, CarriesInWords};
+ghost use Rattle.reply.specs.Replies.{CarriesInWords};
 
+use state::layout::Words;
 use model::attribute::{CEILINGED, of_mutex};
 use model::call::Answer;
-use model::code::{E_LIMIT, E_PAR, E_RSATR};
-use model::number::{MaybeMutex, TaskNumber, natural};
+use model::code::{E_LIMIT, Error};
+use model::number::{TaskNumber, natural};
 use model::sizes::PRIORITIES;
 use reply::field::{answer_number, outside};
-use reply::{Reply, Verdict};
+use reply::Reply;
 use script::log::log_answer;
 use search::unused::unused_mutex;
 use state::mutex::{set_attribute, set_ceiling, set_exists};
 
-pub fn refuse_cre_mtx(state: &[u32], attribute: i32, ceiling: i32) -> Verdict
-    requires { length state.now ≡ word_count }
-    ensures { result ≡ verdict (first_refusal (cre_mtx_refusals (kernel state.now) attribute ceiling)) }
+pub fn refuse_cre_mtx(state: &Words, attribute: i32, ceiling: i32) -> Result<(), Error>
+    ensures { refusal_of result ≡ first_refusal (cre_mtx_refusals (kernel state.now) attribute ceiling) }
 {
     let a = natural(attribute);
     let allowed = of_mutex(a);
     if (attribute < 0) | !allowed {
-        return Verdict::Refused(E_RSATR);
+        return Err(Error::Rsatr);
     }
     let bad = outside(1, PRIORITIES as i32, ceiling);
     if (a == CEILINGED) & bad {
-        return Verdict::Refused(E_PAR);
+        return Err(Error::Par);
     }
     let found = unused_mutex(state);
-    let MaybeMutex::Mutex(_) = found else {
-        return Verdict::Refused(E_LIMIT);
+    let Some(_) = found else {
+        return Err(Error::Limit);
     };
-    Verdict::Allowed
+    Ok(())
 }
 
 // "with attributes 0 to 2 any ceiling is ignored and kept as 0".
@@ -52,19 +53,18 @@ fn kept_ceiling(attribute: u32, ceiling: i32) -> u32
 
 // A number is unused, since nothing refuses the call.
 pub fn cre_mtx(
-    state: &mut [u32],
+    state: &mut Words,
     log: &mut [u8],
     at: usize,
     caller: TaskNumber,
     attribute: i32,
     ceiling: i32,
 ) -> Reply
-    requires state_len { length state.old ≡ word_count }
-    requires ceiling_value { first_refusal (cre_mtx_refusals (kernel state.old) attribute ceiling) ≡ none }
+    requires { first_refusal (cre_mtx_refusals (kernel state.old) attribute ceiling) ≡ none }
     ensures { CarriesInWords caller.0 (λ w. cre_mtx w (number attribute) ceiling) state.old log.old at state.new log.new result }
 {
     let found = unused_mutex(state);
-    let MaybeMutex::Mutex(m) = found else {
+    let Some(m) = found else {
         return Reply {
             answer: Answer::Code(E_LIMIT),
             next: at,

@@ -5,40 +5,40 @@ ghost use Rattle.model.specs.Sizes.{mutexes};
 ghost use Rattle.model.specs.Code.{number};
 ghost use Rattle.model.specs.Refusal.{first_refusal, deletion_refusals};
 ghost use Rattle.model.specs.Effect.{del_mtx};
+ghost use Rattle.model.specs.Errors.{refusal_of};
 ghost use Rattle.model.specs.Words.{word_count, kernel};
 ghost use Rattle.state.specs.Words.{Represents};
-ghost use Rattle.reply.specs.Replies.{verdict, CarriesInLog};
+ghost use Rattle.reply.specs.Replies.{CarriesInLog};
 ghost use Rattle.mutex.specs.Struck.{struck_out};
 
+use state::layout::Words;
 use act::waits::end_waits;
 use model::call::Answer;
-use model::code::{E_DLT, E_ID, E_NOEXS, E_OK};
-use model::number::{MaybeMutex, MutexNumber, TaskNumber};
+use model::code::{E_DLT, E_OK, Error};
+use model::number::{MutexNumber, TaskNumber};
 use model::sizes::PLACES;
 use order::queue_order;
 use priority::recompute;
-use reply::{Reply, Verdict};
+use reply::Reply;
 use script::log::log_answer;
 use state::mutex::{exists, set_attribute, set_ceiling, set_exists, set_holder};
 use state::task::LOCKING;
 
-pub fn refuse_del_mtx(state: &[u32], mutex: i32) -> Verdict
-    requires { length state.now ≡ word_count }
-    ensures { result ≡ verdict (first_refusal (deletion_refusals mutexes (kernel state.now).mutexes.exists mutex)) }
+pub fn refuse_del_mtx(state: &Words, mutex: i32) -> Result<(), Error>
+    ensures { refusal_of result ≡ first_refusal (deletion_refusals mutexes (kernel state.now).mutexes.exists mutex) }
 {
     let found = MutexNumber::from_field(mutex);
-    let MaybeMutex::Mutex(m) = found else {
-        return Verdict::Refused(E_ID);
+    let Some(m) = found else {
+        return Err(Error::Id);
     };
     if exists(state, m) == 0 {
-        return Verdict::Refused(E_NOEXS);
+        return Err(Error::Noexs);
     }
-    Verdict::Allowed
+    Ok(())
 }
 
 // "a holder loses the mutex", and priorities are settled.
-fn strike_out(state: &mut [u32], m: MutexNumber)
-    requires { length state.old ≡ word_count }
+fn strike_out(state: &mut Words, m: MutexNumber)
     ensures { Represents state.new (struck_out (kernel state.old) m.0) }
 {
     set_exists(state, m, 0);
@@ -50,20 +50,19 @@ fn strike_out(state: &mut [u32], m: MutexNumber)
 
 // The field names a mutex, since nothing refuses the call. Its queue's order is put down before the mutex is gone.
 pub fn del_mtx(
-    state: &mut [u32],
+    state: &mut Words,
     outbox: &mut [u8],
     log: &mut [u8],
     at: usize,
     caller: TaskNumber,
     mutex: i32,
 ) -> Reply
-    requires state_len { length state.old ≡ word_count }
-    requires mutex_value { first_refusal (deletion_refusals mutexes (kernel state.old).mutexes.exists mutex) ≡ none }
+    requires { first_refusal (deletion_refusals mutexes (kernel state.old).mutexes.exists mutex) ≡ none }
     ensures { CarriesInLog caller.0 (λ w. del_mtx w (number mutex)) state.old outbox.old log.old at state.new outbox.new log.new result }
 {
     let answer = Answer::Code(E_OK);
     let found = MutexNumber::from_field(mutex);
-    let MaybeMutex::Mutex(m) = found else {
+    let Some(m) = found else {
         return Reply {
             answer: answer,
             next: at,

@@ -11,26 +11,27 @@ ghost use Rattle.model.specs.Act.{wait as waiting};
 ghost use Rattle.model.specs.Refusal.{first_refusal, loc_mtx_refusals};
 ghost use Rattle.model.specs.Effect.{loc_mtx};
 ghost use Rattle.model.specs.Valid.{Each, Priorities, Bitmap, Locking};
+ghost use Rattle.model.specs.Errors.{refusal_of};
 ghost use Rattle.model.specs.Words.{word_count, kernel};
 ghost use Rattle.state.specs.Words.{Represents};
 ghost use Rattle.act.specs.Held.{DoesInWords};
-ghost use Rattle.reply.specs.Replies.{verdict, CarriesInWords};
+ghost use Rattle.reply.specs.Replies.{CarriesInWords};
 
+use state::layout::Words;
 use act::wait::begin_wait;
 use model::attribute::{CEILINGED, INHERITS};
 use model::call::Answer;
-use model::code::{E_ID, E_ILUSE, E_NOEXS, E_OK, E_PAR, E_TMOUT};
-use model::number::{MaybeMutex, MutexNumber, TaskNumber};
+use model::code::{E_OK, Error};
+use model::number::{MutexNumber, TaskNumber};
 use priority::recompute;
 use reply::field::{bad_timeout, no_time};
-use reply::{Reply, Verdict};
+use reply::Reply;
 use script::log::log_answer;
 use state::mutex::{attribute, ceiling, exists, holder, set_holder};
 use state::task::{LOCKING, base};
 
 // "caller's base above the ceiling"; above is more urgent, a lesser number.
-fn base_above_ceiling(state: &[u32], t: TaskNumber, m: MutexNumber) -> bool
-    requires { length state.now ≡ word_count }
+fn base_above_ceiling(state: &Words, t: TaskNumber, m: MutexNumber) -> bool
     ensures { result ≡ eqb ((kernel state.now).mutexes.attribute ! m.0) ceilinged && ltb ((kernel state.now).tasks.base ! t.0) ((kernel state.now).mutexes.ceiling ! m.0) }
 {
     let a = attribute(state, m);
@@ -39,37 +40,35 @@ fn base_above_ceiling(state: &[u32], t: TaskNumber, m: MutexNumber) -> bool
     (a == CEILINGED) & (own < top)
 }
 
-pub fn refuse_loc_mtx(state: &[u32], caller: TaskNumber, mutex: i32, timeout: i32) -> Verdict
-    requires state_len { length state.now ≡ word_count }
-    requires caller_value { caller.0 ≡ running (kernel state.now) }
-    ensures { result ≡ verdict (first_refusal (loc_mtx_refusals (kernel state.now) mutex timeout)) }
+pub fn refuse_loc_mtx(state: &Words, caller: TaskNumber, mutex: i32, timeout: i32) -> Result<(), Error>
+    requires { caller.0 ≡ running (kernel state.now) }
+    ensures { refusal_of result ≡ first_refusal (loc_mtx_refusals (kernel state.now) mutex timeout) }
 {
     if bad_timeout(timeout) {
-        return Verdict::Refused(E_PAR);
+        return Err(Error::Par);
     }
     let found = MutexNumber::from_field(mutex);
-    let MaybeMutex::Mutex(m) = found else {
-        return Verdict::Refused(E_ID);
+    let Some(m) = found else {
+        return Err(Error::Id);
     };
     if exists(state, m) == 0 {
-        return Verdict::Refused(E_NOEXS);
+        return Err(Error::Noexs);
     }
     let held = holder(state, m);
     if held == caller.word() {
-        return Verdict::Refused(E_ILUSE);
+        return Err(Error::Iluse);
     }
     if base_above_ceiling(state, caller, m) {
-        return Verdict::Refused(E_ILUSE);
+        return Err(Error::Iluse);
     }
     if no_time(timeout, held != 0) {
-        return Verdict::Refused(E_TMOUT);
+        return Err(Error::Tmout);
     }
-    Verdict::Allowed
+    Ok(())
 }
 
 // A free mutex is taken. Nobody waits for it, so that no priority changes unless it has a ceiling.
-fn take(state: &mut [u32], m: MutexNumber, caller: TaskNumber)
-    requires state_len { length state.old ≡ word_count }
+fn take(state: &mut Words, m: MutexNumber, caller: TaskNumber)
     requires priorities { Priorities (kernel state.old) }
     requires bitmap { Bitmap (kernel state.old) }
     requires each { Each tasks (Locking (kernel state.old)) }
@@ -84,8 +83,7 @@ fn take(state: &mut [u32], m: MutexNumber, caller: TaskNumber)
 }
 
 // The caller waits for a mutex. It was ready, so that no priority changes unless the mutex inherits.
-fn wait_for(state: &mut [u32], m: MutexNumber, caller: TaskNumber, timeout: i32)
-    requires state_len { length state.old ≡ word_count }
+fn wait_for(state: &mut Words, m: MutexNumber, caller: TaskNumber, timeout: i32)
     requires caller_value { caller.0 ≡ running (kernel state.old) }
     requires priorities { Priorities (kernel state.old) }
     requires bitmap { Bitmap (kernel state.old) }
@@ -100,14 +98,13 @@ fn wait_for(state: &mut [u32], m: MutexNumber, caller: TaskNumber, timeout: i32)
 
 // "Lock: a free mutex is taken, else the caller waits." The field names a mutex, since nothing refuses the call.
 pub fn loc_mtx(
-    state: &mut [u32],
+    state: &mut Words,
     log: &mut [u8],
     at: usize,
     caller: TaskNumber,
     mutex: i32,
     timeout: i32,
 ) -> Reply
-    requires state_len { length state.old ≡ word_count }
     requires caller_value { caller.0 ≡ running (kernel state.old) }
     requires timeout_value { first_refusal (loc_mtx_refusals (kernel state.old) mutex timeout) ≡ none }
     requires priorities { Priorities (kernel state.old) }
@@ -116,7 +113,7 @@ pub fn loc_mtx(
     ensures { CarriesInWords caller.0 (λ w. loc_mtx w (number mutex) timeout) state.old log.old at state.new log.new result }
 {
     let found = MutexNumber::from_field(mutex);
-    let MaybeMutex::Mutex(m) = found else {
+    let Some(m) = found else {
         return Reply {
             answer: Answer::Waits,
             next: at,

@@ -6,45 +6,45 @@ ghost use Rattle.model.specs.World.{running};
 ghost use Rattle.model.specs.Refusal.{first_refusal, unl_mtx_refusals};
 ghost use Rattle.model.specs.Effect.{unl_mtx};
 ghost use Rattle.model.specs.Valid.{Arrivals, Priorities, Bitmap};
+ghost use Rattle.model.specs.Errors.{refusal_of};
 ghost use Rattle.model.specs.Words.{word_count, kernel};
-ghost use Rattle.reply.specs.Replies.{verdict, CarriesInLog};
+ghost use Rattle.reply.specs.Replies.{CarriesInLog};
 
+use state::layout::Words;
 use act::mutex::release_settled;
 use model::call::Answer;
-use model::code::{E_ID, E_ILUSE, E_NOEXS, E_OK};
-use model::number::{MaybeMutex, MutexNumber, TaskNumber};
-use reply::{Reply, Verdict};
+use model::code::{E_OK, Error};
+use model::number::{MutexNumber, TaskNumber};
+use reply::Reply;
 use script::log::log_answer;
 use state::mutex::{exists, holder};
 
-pub fn refuse_unl_mtx(state: &[u32], caller: TaskNumber, mutex: i32) -> Verdict
-    requires state_len { length state.now ≡ word_count }
-    requires caller_value { caller.0 ≡ running (kernel state.now) }
-    ensures { result ≡ verdict (first_refusal (unl_mtx_refusals (kernel state.now) mutex)) }
+pub fn refuse_unl_mtx(state: &Words, caller: TaskNumber, mutex: i32) -> Result<(), Error>
+    requires { caller.0 ≡ running (kernel state.now) }
+    ensures { refusal_of result ≡ first_refusal (unl_mtx_refusals (kernel state.now) mutex) }
 {
     let found = MutexNumber::from_field(mutex);
-    let MaybeMutex::Mutex(m) = found else {
-        return Verdict::Refused(E_ID);
+    let Some(m) = found else {
+        return Err(Error::Id);
     };
     if exists(state, m) == 0 {
-        return Verdict::Refused(E_NOEXS);
+        return Err(Error::Noexs);
     }
     if holder(state, m) != caller.word() {
-        return Verdict::Refused(E_ILUSE);
+        return Err(Error::Iluse);
     }
-    Verdict::Allowed
+    Ok(())
 }
 
 // The field names a mutex, since nothing refuses the call.
 pub fn unl_mtx(
-    state: &mut [u32],
+    state: &mut Words,
     outbox: &mut [u8],
     log: &mut [u8],
     at: usize,
     caller: TaskNumber,
     mutex: i32,
 ) -> Reply
-    requires state_len { length state.old ≡ word_count }
     requires mutex_value { first_refusal (unl_mtx_refusals (kernel state.old) mutex) ≡ none }
     requires priorities { Priorities (kernel state.old) }
     requires bitmap { Bitmap (kernel state.old) }
@@ -53,7 +53,7 @@ pub fn unl_mtx(
 {
     let answer = Answer::Code(E_OK);
     let found = MutexNumber::from_field(mutex);
-    let MaybeMutex::Mutex(m) = found else {
+    let Some(m) = found else {
         return Reply {
             answer: answer,
             next: at,

@@ -5,18 +5,20 @@ ghost use Rattle.model.specs.Sizes.{blocks, block_bytes};
 ghost use Rattle.model.specs.Code.{number};
 ghost use Rattle.model.specs.Refusal.{first_refusal, cre_mpf_refusals, outside as is_outside};
 ghost use Rattle.model.specs.Effect.{cre_mpf};
+ghost use Rattle.model.specs.Errors.{refusal_of};
 ghost use Rattle.model.specs.Words.{word_count, kernel};
 ghost use Rattle.state.specs.Words.{Represents};
-ghost use Rattle.reply.specs.Replies.{verdict, CarriesInWords};
+ghost use Rattle.reply.specs.Replies.{CarriesInWords};
 ghost use Rattle.pool.specs.Rows.{pool_row};
 
+use state::layout::Words;
 use model::attribute::of_pool;
 use model::call::Answer;
-use model::code::{E_LIMIT, E_NOMEM, E_OK, E_PAR, E_RSATR};
-use model::number::{MaybePool, PoolNumber, TaskNumber, natural};
+use model::code::{E_OK, Error};
+use model::number::{PoolNumber, TaskNumber, natural};
 use model::sizes::{BLOCK_BYTES, BLOCKS};
 use reply::field::{answer_number, outside};
-use reply::{Reply, Verdict};
+use reply::Reply;
 use script::log::log_answer;
 use search::room::pools_exceed;
 use search::unused::unused_pool;
@@ -31,42 +33,40 @@ fn bytes(count: i32, size: i32) -> usize
     natural(count) as usize * natural(size) as usize
 }
 
-pub fn refuse_cre_mpf(state: &[u32], attribute: i32, count: i32, size: i32) -> Verdict
-    requires { length state.now ≡ word_count }
-    ensures { result ≡ verdict (first_refusal (cre_mpf_refusals (kernel state.now) attribute count size)) }
+pub fn refuse_cre_mpf(state: &Words, attribute: i32, count: i32, size: i32) -> Result<(), Error>
+    ensures { refusal_of result ≡ first_refusal (cre_mpf_refusals (kernel state.now) attribute count size) }
 {
     let a = natural(attribute);
     let allowed = of_pool(a);
     if (attribute < 0) | !allowed {
-        return Verdict::Refused(E_RSATR);
+        return Err(Error::Rsatr);
     }
     if outside(1, BLOCKS as i32, count) {
-        return Verdict::Refused(E_PAR);
+        return Err(Error::Par);
     }
     if outside(1, BLOCK_BYTES as i32, size) {
-        return Verdict::Refused(E_PAR);
+        return Err(Error::Par);
     }
     let found = unused_pool(state);
-    let MaybePool::Pool(_) = found else {
-        return Verdict::Refused(E_LIMIT);
+    let Some(_) = found else {
+        return Err(Error::Limit);
     };
     let more = bytes(count, size);
     if pools_exceed(state, more) {
-        return Verdict::Refused(E_NOMEM);
+        return Err(Error::Nomem);
     }
-    Verdict::Allowed
+    Ok(())
 }
 
 // A pool's entries, all but the flags of its blocks.
 pub(crate) fn set_row(
-    state: &mut [u32],
+    state: &mut Words,
     p: PoolNumber,
     exists: u32,
     attribute: u32,
     count: u32,
     size: u32,
 )
-    requires { length state.old ≡ word_count }
     ensures { Represents state.new (pool_row (kernel state.old) p.0 exists attribute count size) }
 {
     pool::set_exists(state, p, exists);
@@ -77,7 +77,7 @@ pub(crate) fn set_row(
 
 // "A new object takes the smallest free number"; there is one, since nothing refuses the call.
 pub fn cre_mpf(
-    state: &mut [u32],
+    state: &mut Words,
     log: &mut [u8],
     at: usize,
     caller: TaskNumber,
@@ -85,12 +85,11 @@ pub fn cre_mpf(
     count: i32,
     size: i32,
 ) -> Reply
-    requires state_len { length state.old ≡ word_count }
-    requires size_value { first_refusal (cre_mpf_refusals (kernel state.old) attribute count size) ≡ none }
+    requires { first_refusal (cre_mpf_refusals (kernel state.old) attribute count size) ≡ none }
     ensures { CarriesInWords caller.0 (λ w. cre_mpf w (number attribute) (number count) (number size)) state.old log.old at state.new log.new result }
 {
     let found = unused_pool(state);
-    let MaybePool::Pool(p) = found else {
+    let Some(p) = found else {
         return Reply {
             answer: Answer::Code(E_OK),
             next: at,

@@ -5,40 +5,40 @@ ghost use Rattle.model.specs.Sizes.{pools};
 ghost use Rattle.model.specs.Code.{number};
 ghost use Rattle.model.specs.Refusal.{first_refusal, deletion_refusals};
 ghost use Rattle.model.specs.Effect.{del_mpf};
+ghost use Rattle.model.specs.Errors.{refusal_of};
 ghost use Rattle.model.specs.Words.{word_count, kernel};
 ghost use Rattle.state.specs.Words.{Represents};
-ghost use Rattle.reply.specs.Replies.{verdict, CarriesInLog};
+ghost use Rattle.reply.specs.Replies.{CarriesInLog};
 ghost use Rattle.pool.specs.Rows.{all_freed, struck_out};
 
+use state::layout::Words;
 use super::create::set_row;
 use act::waits::end_waits;
 use model::call::Answer;
-use model::code::{E_DLT, E_ID, E_NOEXS, E_OK};
-use model::number::{MaybePool, PoolNumber, TaskNumber};
+use model::code::{E_DLT, E_OK, Error};
+use model::number::{PoolNumber, TaskNumber};
 use model::sizes::{BLOCKS, PLACES};
 use order::queue_order;
-use reply::{Reply, Verdict};
+use reply::Reply;
 use script::log::log_answer;
 use state::pool::{exists, set_taken};
 use state::task::GETTING;
 
-pub fn refuse_del_mpf(state: &[u32], pool: i32) -> Verdict
-    requires { length state.now ≡ word_count }
-    ensures { result ≡ verdict (first_refusal (deletion_refusals pools (kernel state.now).pools.exists pool)) }
+pub fn refuse_del_mpf(state: &Words, pool: i32) -> Result<(), Error>
+    ensures { refusal_of result ≡ first_refusal (deletion_refusals pools (kernel state.now).pools.exists pool) }
 {
     let found = PoolNumber::from_field(pool);
-    let MaybePool::Pool(p) = found else {
-        return Verdict::Refused(E_ID);
+    let Some(p) = found else {
+        return Err(Error::Id);
     };
     if exists(state, p) == 0 {
-        return Verdict::Refused(E_NOEXS);
+        return Err(Error::Noexs);
     }
-    Verdict::Allowed
+    Ok(())
 }
 
 // No block of the pool is handed out any more.
-fn free_all(state: &mut [u32], p: PoolNumber)
-    requires { length state.old ≡ word_count }
+fn free_all(state: &mut Words, p: PoolNumber)
     ensures { Represents state.new (all_freed (kernel state.old) p.0) }
 {
     for n in 0..BLOCKS {
@@ -46,8 +46,7 @@ fn free_all(state: &mut [u32], p: PoolNumber)
     }
 }
 
-fn strike_out(state: &mut [u32], p: PoolNumber)
-    requires { length state.old ≡ word_count }
+fn strike_out(state: &mut Words, p: PoolNumber)
     ensures { Represents state.new (struck_out (kernel state.old) p.0) }
 {
     set_row(state, p, 0, 0, 0, 0);
@@ -56,20 +55,19 @@ fn strike_out(state: &mut [u32], p: PoolNumber)
 
 // The field names a pool, since nothing refuses the call. Its queue's order is put down before the pool is gone.
 pub fn del_mpf(
-    state: &mut [u32],
+    state: &mut Words,
     outbox: &mut [u8],
     log: &mut [u8],
     at: usize,
     caller: TaskNumber,
     pool: i32,
 ) -> Reply
-    requires state_len { length state.old ≡ word_count }
-    requires pool_value { first_refusal (deletion_refusals pools (kernel state.old).pools.exists pool) ≡ none }
+    requires { first_refusal (deletion_refusals pools (kernel state.old).pools.exists pool) ≡ none }
     ensures { CarriesInLog caller.0 (λ w. del_mpf w (number pool)) state.old outbox.old log.old at state.new outbox.new log.new result }
 {
     let answer = Answer::Code(E_OK);
     let found = PoolNumber::from_field(pool);
-    let MaybePool::Pool(p) = found else {
+    let Some(p) = found else {
         return Reply {
             answer: answer,
             next: at,

@@ -5,57 +5,57 @@ ghost use Rattle.model.specs.Code.{number};
 ghost use Rattle.model.specs.World.{running};
 ghost use Rattle.model.specs.Refusal.{first_refusal, get_mpf_refusals};
 ghost use Rattle.model.specs.Effect.{get_mpf};
+ghost use Rattle.model.specs.Errors.{refusal_of};
 ghost use Rattle.model.specs.Words.{word_count, kernel};
-ghost use Rattle.reply.specs.Replies.{verdict, CarriesInWords};
+ghost use Rattle.reply.specs.Replies.{CarriesInWords};
 
+use state::layout::Words;
 use act::wait::wait;
 use model::call::Answer;
-use model::code::{E_ID, E_NOEXS, E_OK, E_PAR, E_TMOUT};
-use model::number::{MaybePool, PoolNumber, TaskNumber};
+use model::code::{E_OK, Error};
+use model::number::{PoolNumber, TaskNumber};
 use reply::field::{bad_timeout, no_time};
-use reply::{Reply, Verdict};
+use reply::Reply;
 use script::log::{log_answer, log_block};
 use search::block::free_block;
 use state::pool::{exists, set_taken};
 use state::task::GETTING;
 
-pub fn refuse_get_mpf(state: &[u32], pool: i32, timeout: i32) -> Verdict
-    requires { length state.now ≡ word_count }
-    ensures { result ≡ verdict (first_refusal (get_mpf_refusals (kernel state.now) pool timeout)) }
+pub fn refuse_get_mpf(state: &Words, pool: i32, timeout: i32) -> Result<(), Error>
+    ensures { refusal_of result ≡ first_refusal (get_mpf_refusals (kernel state.now) pool timeout) }
 {
     if bad_timeout(timeout) {
-        return Verdict::Refused(E_PAR);
+        return Err(Error::Par);
     }
     let found = PoolNumber::from_field(pool);
-    let MaybePool::Pool(p) = found else {
-        return Verdict::Refused(E_ID);
+    let Some(p) = found else {
+        return Err(Error::Id);
     };
     if exists(state, p) == 0 {
-        return Verdict::Refused(E_NOEXS);
+        return Err(Error::Noexs);
     }
     let block = free_block(state, p);
     if no_time(timeout, block == 0) {
-        return Verdict::Refused(E_TMOUT);
+        return Err(Error::Tmout);
     }
-    Verdict::Allowed
+    Ok(())
 }
 
 // "Get: the smallest free block, counted from 1, else wait." The field names a pool, since nothing refuses the call.
 pub fn get_mpf(
-    state: &mut [u32],
+    state: &mut Words,
     log: &mut [u8],
     at: usize,
     caller: TaskNumber,
     pool: i32,
     timeout: i32,
 ) -> Reply
-    requires state_len { length state.old ≡ word_count }
     requires caller_value { caller.0 ≡ running (kernel state.old) }
     requires timeout_value { first_refusal (get_mpf_refusals (kernel state.old) pool timeout) ≡ none }
     ensures { CarriesInWords caller.0 (λ w. get_mpf w (number pool) timeout) state.old log.old at state.new log.new result }
 {
     let found = PoolNumber::from_field(pool);
-    let MaybePool::Pool(p) = found else {
+    let Some(p) = found else {
         return Reply {
             answer: Answer::Waits,
             next: at,

@@ -4,52 +4,52 @@ ghost use Rattle.std.proofs.Math.Option.{none};
 ghost use Rattle.model.specs.Code.{number};
 ghost use Rattle.model.specs.Refusal.{first_refusal, rel_mpf_refusals};
 ghost use Rattle.model.specs.Effect.{rel_mpf};
+ghost use Rattle.model.specs.Errors.{refusal_of};
 ghost use Rattle.model.specs.Words.{word_count, kernel};
 ghost use Rattle.act.specs.Held.{DoesInLog};
-ghost use Rattle.reply.specs.Replies.{verdict, CarriesInLog};
+ghost use Rattle.reply.specs.Replies.{CarriesInLog};
 
+use state::layout::Words;
 use act::wait::end_wait_block;
 use model::call::Answer;
-use model::code::{E_ID, E_NOEXS, E_OK, E_PAR};
-use model::number::{MaybePool, MaybeTask, PoolNumber, TaskNumber, natural};
+use model::code::{E_OK, Error};
+use model::number::{PoolNumber, TaskNumber, natural};
 use queue::front::front;
-use reply::{Reply, Verdict};
+use reply::Reply;
 use script::log::log_answer;
 use search::block::handed_out;
 use state::pool::{exists, set_taken};
 use state::task::GETTING;
 
-pub fn refuse_rel_mpf(state: &[u32], pool: i32, block: i32) -> Verdict
-    requires { length state.now ≡ word_count }
-    ensures { result ≡ verdict (first_refusal (rel_mpf_refusals (kernel state.now) pool block)) }
+pub fn refuse_rel_mpf(state: &Words, pool: i32, block: i32) -> Result<(), Error>
+    ensures { refusal_of result ≡ first_refusal (rel_mpf_refusals (kernel state.now) pool block) }
 {
     let found = PoolNumber::from_field(pool);
-    let MaybePool::Pool(p) = found else {
-        return Verdict::Refused(E_ID);
+    let Some(p) = found else {
+        return Err(Error::Id);
     };
     if exists(state, p) == 0 {
-        return Verdict::Refused(E_NOEXS);
+        return Err(Error::Noexs);
     }
     if !handed_out(state, p, block) {
-        return Verdict::Refused(E_PAR);
+        return Err(Error::Par);
     }
-    Verdict::Allowed
+    Ok(())
 }
 
 // "A returned block goes to the first waiter"; without a waiter it is free.
 fn give_back(
-    state: &mut [u32],
+    state: &mut Words,
     outbox: &mut [u8],
     log: &mut [u8],
     at: usize,
     p: PoolNumber,
     block: u32,
 ) -> usize
-    requires { length state.old ≡ word_count }
     ensures { DoesInLog (λ w. (rel_mpf w p.0 block).world) state.old outbox.old log.old at state.new outbox.new log.new result }
 {
     let first = front(state, GETTING, p.word());
-    let MaybeTask::Task(t) = first else {
+    let Some(t) = first else {
         set_taken(state, p, block, 0);
         return at;
     };
@@ -58,7 +58,7 @@ fn give_back(
 
 // The field names a pool, since nothing refuses the call.
 pub fn rel_mpf(
-    state: &mut [u32],
+    state: &mut Words,
     outbox: &mut [u8],
     log: &mut [u8],
     at: usize,
@@ -66,13 +66,12 @@ pub fn rel_mpf(
     pool: i32,
     block: i32,
 ) -> Reply
-    requires state_len { length state.old ≡ word_count }
-    requires block_value { first_refusal (rel_mpf_refusals (kernel state.old) pool block) ≡ none }
+    requires { first_refusal (rel_mpf_refusals (kernel state.old) pool block) ≡ none }
     ensures { CarriesInLog caller.0 (λ w. rel_mpf w (number pool) (number block)) state.old outbox.old log.old at state.new outbox.new log.new result }
 {
     let answer = Answer::Code(E_OK);
     let found = PoolNumber::from_field(pool);
-    let MaybePool::Pool(p) = found else {
+    let Some(p) = found else {
         return Reply {
             answer: answer,
             next: at,

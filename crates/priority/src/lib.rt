@@ -13,15 +13,15 @@ ghost use Rattle.state.specs.Words.{Represents};
 ghost use Rattle.priority.specs.Own.{base_of};
 ghost use Rattle.priority.specs.Afresh.{at_bases, at_own, holder_at_own, passed_on, worked_out};
 
-use model::number::{MaybeMutex, MaybeTask, TaskNumber};
+use state::layout::Words;
+use model::number::TaskNumber;
 use model::sizes::{MUTEXES, TASKS};
 use ready::renew_bits;
 use state::task;
 
 // Every current priority becomes the effective one, whatever the words hold, and the bits of the priorities that have a ready task go with
 // them.
-pub fn recompute(state: &mut [u32])
-    requires { length state.old ≡ word_count }
+pub fn recompute(state: &mut Words)
     ensures { Represents state.new (recompute (kernel state.old)) }
 {
     work_out(state);
@@ -29,8 +29,7 @@ pub fn recompute(state: &mut [u32])
 }
 
 // The current priorities alone: each starts from the task's own, and then each task passes its current priority on.
-pub fn work_out(state: &mut [u32])
-    requires { length state.old ≡ word_count }
+pub fn work_out(state: &mut Words)
     ensures { Represents state.new (worked_out (kernel state.old)) }
 {
     start_from_own(state);
@@ -41,8 +40,7 @@ pub fn work_out(state: &mut [u32])
 
 // Every current priority becomes the task's own. Few mutexes have ceilings, so only the tasks that hold one are asked for more than their
 // base priorities.
-fn start_from_own(state: &mut [u32])
-    requires { length state.old ≡ word_count }
+fn start_from_own(state: &mut Words)
     ensures { Represents state.new (at_own (kernel state.old)) }
 {
     start_from_bases(state);
@@ -52,8 +50,7 @@ fn start_from_own(state: &mut [u32])
 }
 
 // Every current priority becomes the task's base priority. Entry 0, which is no task's, becomes 0.
-fn start_from_bases(state: &mut [u32])
-    requires { length state.old ≡ word_count }
+fn start_from_bases(state: &mut Words)
     ensures { Represents state.new (at_bases (kernel state.old)) }
 {
     task::set_every_current(state, 0);
@@ -63,13 +60,12 @@ fn start_from_bases(state: &mut [u32])
 }
 
 // The current priority of the task of a number becomes its base priority.
-fn set_to_base(state: &mut [u32], n: u32)
-    requires state_len { length state.old ≡ word_count }
+fn set_to_base(state: &mut Words, n: u32)
     requires le_n { 1 ≤ n }
     requires n_le_tasks { n ≤ tasks }
     ensures { Represents state.new (with_current (kernel state.old) n (base_of (kernel state.old) n)) }
 {
-    let MaybeTask::Task(t) = TaskNumber::from_word(n) else {
+    let Some(t) = TaskNumber::from_word(n) else {
         return;
     };
     let p = task::base(state, t);
@@ -77,13 +73,12 @@ fn set_to_base(state: &mut [u32], n: u32)
 }
 
 // That of the task that holds a mutex whose ceiling counts, if any, becomes its own.
-fn set_holder_to_own(state: &mut [u32], n: u32)
-    requires state_len { length state.old ≡ word_count }
+fn set_holder_to_own(state: &mut Words, n: u32)
     requires le_n { 1 ≤ n }
     requires n_le_mutexes { n ≤ mutexes }
     ensures { Represents state.new (holder_at_own (kernel state.old) n) }
 {
-    let MaybeTask::Task(t) = own::ceiling_holder(state, n) else {
+    let Some(t) = own::ceiling_holder(state, n) else {
         return;
     };
     let p = own::own_priority(state, t);
@@ -91,16 +86,15 @@ fn set_holder_to_own(state: &mut [u32], n: u32)
 }
 
 // The tasks that the task of a number leads to are raised to its current priority.
-fn pass_on(state: &mut [u32], n: u32)
-    requires state_len { length state.old ≡ word_count }
+fn pass_on(state: &mut Words, n: u32)
     requires le_n { 1 ≤ n }
     requires n_le_tasks { n ≤ tasks }
     ensures { Represents state.new (passed_on (kernel state.old) n) }
 {
-    let MaybeTask::Task(t) = TaskNumber::from_word(n) else {
+    let Some(t) = TaskNumber::from_word(n) else {
         return;
     };
-    let MaybeMutex::Mutex(m) = walk::awaited_mutex(state, t) else {
+    let Some(m) = walk::awaited_mutex(state, t) else {
         return;
     };
     let p = task::current(state, t);

@@ -5,16 +5,16 @@ ghost use Rattle.model.specs.Number.{word_number, maybe_task};
 ghost use Rattle.model.specs.Words.{word_count, kernel};
 ghost use Rattle.priority.specs.Own.{own_of, with_ceiling_of, ceiling_holder};
 
+use state::layout::Words;
 use model::attribute::CEILINGED;
-use model::number::{MaybeMutex, MaybeTask, MutexNumber, TaskNumber};
+use model::number::{MutexNumber, TaskNumber};
 use model::sizes::MUTEXES;
 use state::{mutex, task};
 
 // The most urgent of the task's base priority and the ceilings that it holds. Entry 0 of a field stands for no task, whatever it
 // holds, so the number is not 0.
-pub(crate) fn own_priority(state: &[u32], t: TaskNumber) -> u32
-    requires state_len { length state.now ≡ word_count }
-    requires le_t { 1 ≤ t.0 }
+pub(crate) fn own_priority(state: &Words, t: TaskNumber) -> u32
+    requires { 1 ≤ t.0 }
     ensures { result ≡ own_of (kernel state.now) t.0 }
 {
     let mut p = task::base(state, t);
@@ -25,13 +25,12 @@ pub(crate) fn own_priority(state: &[u32], t: TaskNumber) -> u32
 }
 
 // The more urgent of a priority and a mutex's ceiling, if the task holds it.
-fn with_ceiling(state: &[u32], t: TaskNumber, n: u32, p: u32) -> u32
-    requires state_len { length state.now ≡ word_count }
+fn with_ceiling(state: &Words, t: TaskNumber, n: u32, p: u32) -> u32
     requires le_n { 1 ≤ n }
     requires n_le_mutexes { n ≤ mutexes }
     ensures { result ≡ with_ceiling_of (kernel state.now) t.0 n p }
 {
-    let MaybeMutex::Mutex(m) = MutexNumber::from_word(n) else {
+    let Some(m) = MutexNumber::from_word(n) else {
         return p;
     };
     if mutex::holder(state, m) != t.word() {
@@ -45,18 +44,17 @@ fn with_ceiling(state: &[u32], t: TaskNumber, n: u32, p: u32) -> u32
 }
 
 // The task that holds the mutex of a number, if the mutex's ceiling counts.
-pub(crate) fn ceiling_holder(state: &[u32], n: u32) -> MaybeTask
-    requires state_len { length state.now ≡ word_count }
+pub(crate) fn ceiling_holder(state: &Words, n: u32) -> Option<TaskNumber>
     requires le_n { 1 ≤ n }
     requires n_le_mutexes { n ≤ mutexes }
     ensures { result ≡ maybe_task (word_number (ceiling_holder (kernel state.now) n) tasks) }
 {
-    let MaybeMutex::Mutex(m) = MutexNumber::from_word(n) else {
-        return MaybeTask::Nothing;
+    let Some(m) = MutexNumber::from_word(n) else {
+        return None;
     };
     if mutex::attribute(state, m) == CEILINGED {
         TaskNumber::from_word(mutex::holder(state, m))
     } else {
-        MaybeTask::Nothing
+        None
     }
 }

@@ -9,14 +9,15 @@ ghost use Rattle.model.specs.Words.{word_count, kernel};
 ghost use Rattle.state.specs.Words.{Represents};
 ghost use Rattle.queue.specs.Arriving.{Kept, Gathered, cleared_from};
 
+use state::layout::Words;
 use model::number::TaskNumber;
 use model::sizes::PLACES;
 use ready::renew_bit;
 use state::arrival::{set_task, task};
 
 // One place of the order is seen, when j others have been found: its task is kept behind them, unless it is t or none.
-fn keep(state: &mut [u32], t: TaskNumber, i: usize, j: usize) -> usize
-    requires { (length state.old ≡ word_count) × (j ≤ tasks) }
+fn keep(state: &mut Words, t: TaskNumber, i: usize, j: usize) -> usize
+    requires { j ≤ tasks }
     ensures { Kept t.0 i j state.old state.new result }
 {
     let u = task(state, i);
@@ -31,8 +32,7 @@ fn keep(state: &mut [u32], t: TaskNumber, i: usize, j: usize) -> usize
 }
 
 // The others move to the front, in their order. The answer is how many they are.
-fn gather(state: &mut [u32], t: TaskNumber) -> usize
-    requires { length state.old ≡ word_count }
+fn gather(state: &mut Words, t: TaskNumber) -> usize
     ensures { Gathered t.0 state.old state.new result }
 {
     let mut j: usize = 0;
@@ -43,8 +43,7 @@ fn gather(state: &mut [u32], t: TaskNumber) -> usize
 }
 
 // The places from one on are none's.
-fn clear(state: &mut [u32], from: usize)
-    requires { length state.old ≡ word_count }
+fn clear(state: &mut Words, from: usize)
     ensures { Represents state.new (cleared_from from (kernel state.old)) }
 {
     for i in from..PLACES {
@@ -53,8 +52,7 @@ fn clear(state: &mut [u32], from: usize)
 }
 
 // The task leaves the arrival order.
-pub fn depart(state: &mut [u32], t: TaskNumber)
-    requires { length state.old ≡ word_count }
+pub fn depart(state: &mut Words, t: TaskNumber)
     ensures { Represents state.new (with_arrivals (kernel state.old) (departed t.0 (kernel state.old).arrivals)) }
 {
     let j = gather(state, t);
@@ -62,8 +60,7 @@ pub fn depart(state: &mut [u32], t: TaskNumber)
 }
 
 // The task becomes the last to have arrived.
-pub fn arrive_last(state: &mut [u32], t: TaskNumber)
-    requires { length state.old ≡ word_count }
+pub fn arrive_last(state: &mut Words, t: TaskNumber)
     ensures { Represents state.new (with_arrivals (kernel state.old) (arrived t.0 (kernel state.old).arrivals)) }
 {
     let j = gather(state, t);
@@ -72,8 +69,7 @@ pub fn arrive_last(state: &mut [u32], t: TaskNumber)
 }
 
 // The task arrives in the queue of an object. It becomes ready or is so no more, so the bit of its priority is renewed.
-pub fn arrive(state: &mut [u32], t: TaskNumber, place: u32, object: u32)
-    requires { length state.old ≡ word_count }
+pub fn arrive(state: &mut Words, t: TaskNumber, place: u32, object: u32)
     ensures { Represents state.new (arriving (kernel state.old) t.0 (queue place object)) }
 {
     state::task::set_place(state, t, place);

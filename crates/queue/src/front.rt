@@ -9,22 +9,19 @@ ghost use Rattle.model.specs.World.{queue_front, heads_queue};
 ghost use Rattle.model.specs.Words.{word_count, kernel};
 ghost use Rattle.queue.specs.Better.{better};
 
+use state::layout::Words;
 use model::attribute::{BY_ARRIVAL, BY_PRIORITY, PROTECTION};
-use model::number::{
-    BufferNumber, MaybeBuffer, MaybeMutex, MaybePool, MaybeTask, MutexNumber, PoolNumber,
-    TaskNumber,
-};
+use model::number::{BufferNumber, MutexNumber, PoolNumber, TaskNumber};
 use model::sizes::PLACES;
 use state::arrival::task;
 use state::task::{GETTING, LOCKING, READY, SENDING};
 
 // Whether the task of a number stands in a queue; a number that is no task's stands nowhere.
-pub fn stands_in(state: &[u32], u: u32, place: u32, object: u32) -> bool
-    requires { length state.now ≡ word_count }
+pub fn stands_in(state: &Words, u: u32, place: u32, object: u32) -> bool
     ensures { result ≡ stands_in (kernel state.now) (queue place object) u }
 {
     let found = TaskNumber::from_word(u);
-    let MaybeTask::Task(t) = found else {
+    let Some(t) = found else {
         return false;
     };
     if state::task::place(state, t) != place {
@@ -34,54 +31,49 @@ pub fn stands_in(state: &[u32], u: u32, place: u32, object: u32) -> bool
 }
 
 // The attribute of a mutex, a buffer or a pool by its number, 0 where there is none.
-fn mutex_attribute(state: &[u32], n: u32) -> u32
-    requires { length state.now ≡ word_count }
+fn mutex_attribute(state: &Words, n: u32) -> u32
     ensures { result ≡ numbered (kernel state.now).mutexes.attribute ! n }
 {
     let found = MutexNumber::from_word(n);
-    let MaybeMutex::Mutex(m) = found else {
+    let Some(m) = found else {
         return 0;
     };
     state::mutex::attribute(state, m)
 }
 
-fn buffer_attribute(state: &[u32], n: u32) -> u32
-    requires { length state.now ≡ word_count }
+fn buffer_attribute(state: &Words, n: u32) -> u32
     ensures { result ≡ numbered (kernel state.now).buffers.attribute ! n }
 {
     let found = BufferNumber::from_word(n);
-    let MaybeBuffer::Buffer(b) = found else {
+    let Some(b) = found else {
         return 0;
     };
     state::buffer::attribute(state, b)
 }
 
-fn pool_attribute(state: &[u32], n: u32) -> u32
-    requires { length state.now ≡ word_count }
+fn pool_attribute(state: &Words, n: u32) -> u32
     ensures { result ≡ numbered (kernel state.now).pools.attribute ! n }
 {
     let found = PoolNumber::from_word(n);
-    let MaybePool::Pool(p) = found else {
+    let Some(p) = found else {
         return 0;
     };
     state::pool::attribute(state, p)
 }
 
 // The current priority of a task by its number, 0 where there is none.
-pub fn current(state: &[u32], u: u32) -> u32
-    requires { length state.now ≡ word_count }
+pub fn current(state: &Words, u: u32) -> u32
     ensures { result ≡ numbered (kernel state.now).tasks.current ! u }
 {
     let found = TaskNumber::from_word(u);
-    let MaybeTask::Task(t) = found else {
+    let Some(t) = found else {
         return 0;
     };
     state::task::current(state, t)
 }
 
 // Whether a queue goes by current priority, and not by arrival alone.
-pub fn by_priority(state: &[u32], place: u32, object: u32) -> bool
-    requires { length state.now ≡ word_count }
+pub fn by_priority(state: &Words, place: u32, object: u32) -> bool
     ensures { result ≡ by_priority (facts (kernel state.now)) (queue place object) }
 {
     if place == READY {
@@ -100,8 +92,7 @@ pub fn by_priority(state: &[u32], place: u32, object: u32) -> bool
 }
 
 // The longest-standing task of a queue, 0 if nobody stands there.
-fn oldest(state: &[u32], place: u32, object: u32) -> u32
-    requires { length state.now ≡ word_count }
+fn oldest(state: &Words, place: u32, object: u32) -> u32
     ensures { result ≡ head_of (select (stands_in (kernel state.now) (queue place object)) (kernel state.now).arrivals) }
 {
     for i in 0..PLACES {
@@ -114,8 +105,7 @@ fn oldest(state: &[u32], place: u32, object: u32) -> u32
 }
 
 // The better of the best so far, 0 for none, and a task that arrived after it.
-fn better_of(state: &[u32], best: u32, u: u32) -> u32
-    requires { length state.now ≡ word_count }
+fn better_of(state: &Words, best: u32, u: u32) -> u32
     ensures { result ≡ better (numbered (kernel state.now).tasks.current) best u }
 {
     if best == 0 {
@@ -129,8 +119,7 @@ fn better_of(state: &[u32], best: u32, u: u32) -> u32
 }
 
 // The best so far once one more number of the arrival order has been seen.
-fn best_with(state: &[u32], best: u32, u: u32, place: u32, object: u32) -> u32
-    requires { length state.now ≡ word_count }
+fn best_with(state: &Words, best: u32, u: u32, place: u32, object: u32) -> u32
     ensures { result ≡ cond (stands_in (kernel state.now) (queue place object) u) (better (numbered (kernel state.now).tasks.current) best u) best }
 {
     if stands_in(state, u, place, object) {
@@ -141,8 +130,7 @@ fn best_with(state: &[u32], best: u32, u: u32, place: u32, object: u32) -> u32
 }
 
 // The most urgent task of a queue, of several the longest-standing, 0 if nobody stands there.
-fn most_urgent(state: &[u32], place: u32, object: u32) -> u32
-    requires { length state.now ≡ word_count }
+fn most_urgent(state: &Words, place: u32, object: u32) -> u32
     ensures { result ≡ head_of (sorted (kernel state.now).tasks.current (select (stands_in (kernel state.now) (queue place object)) (kernel state.now).arrivals)) }
 {
     let mut best: u32 = 0;
@@ -153,8 +141,7 @@ fn most_urgent(state: &[u32], place: u32, object: u32) -> u32
 }
 
 // The first of a queue.
-pub fn front(state: &[u32], place: u32, object: u32) -> MaybeTask
-    requires { length state.now ≡ word_count }
+pub fn front(state: &Words, place: u32, object: u32) -> Option<TaskNumber>
     ensures { result ≡ maybe_task (queue_front (kernel state.now) (queue place object)) }
 {
     if by_priority(state, place, object) {
@@ -165,12 +152,11 @@ pub fn front(state: &[u32], place: u32, object: u32) -> MaybeTask
 }
 
 // Whether a task would be the first of a queue if it arrived there now.
-pub fn would_head(state: &[u32], place: u32, object: u32, t: TaskNumber) -> bool
-    requires { length state.now ≡ word_count }
+pub fn would_head(state: &Words, place: u32, object: u32, t: TaskNumber) -> bool
     ensures { result ≡ heads_queue (kernel state.now) (queue place object) t.0 }
 {
     let found = front(state, place, object);
-    let MaybeTask::Task(first) = found else {
+    let Some(first) = found else {
         return true;
     };
     if first.word() == t.word() {

@@ -8,16 +8,16 @@ ghost use Rattle.model.specs.World.{running};
 ghost use Rattle.model.specs.Valid.{Bitmap};
 ghost use Rattle.model.specs.Words.{word_count, kernel};
 
+use state::layout::Words;
 use super::front::{current, stands_in};
-use model::number::{MaybeTask, TaskNumber};
+use model::number::TaskNumber;
 use model::sizes::{PLACES, PRIORITIES};
 use state::arrival::task;
 use state::bitmap::bits;
 use state::task::READY;
 
 // Whether the task of a number stands in the ready queue, at a priority.
-fn ready_at(state: &[u32], u: u32, p: u32) -> bool
-    requires { length state.now ≡ word_count }
+fn ready_at(state: &Words, u: u32, p: u32) -> bool
     ensures { result ≡ (stands_in (kernel state.now) ready_queue u && eqb (numbered (kernel state.now).tasks.current ! u) p) }
 {
     if stands_in(state, u, READY, 0) {
@@ -29,12 +29,11 @@ fn ready_at(state: &[u32], u: u32, p: u32) -> bool
 
 // Found priority by priority, oldest first, stopping at the first found. No priority before the first that has a bit has a ready task; without
 // a bit the search begins behind the last.
-pub fn next_to_run(state: &[u32]) -> MaybeTask
-    requires state_len { length state.now ≡ word_count }
-    requires bitmap { Bitmap (kernel state.now) }
+pub fn next_to_run(state: &Words) -> Option<TaskNumber>
+    requires { Bitmap (kernel state.now) }
     ensures { result ≡ maybe_task (running (kernel state.now)) }
 {
-    let mut found = MaybeTask::Nothing;
+    let mut found = None;
     let first = u32::trailing_zeros(bits(state)) + 1;
     'search: for p in first..=PRIORITIES {
         for i in 0..PLACES {

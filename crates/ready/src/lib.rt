@@ -13,44 +13,42 @@ ghost use Rattle.model.specs.Words.{word_count, kernel};
 ghost use Rattle.state.specs.Words.{Represents};
 ghost use Rattle.ready.specs.Tasks.{ready_task, is_ready_at, with_task};
 
+use state::layout::Words;
 use bit::with_priority;
-use model::number::{MaybeTask, TaskNumber};
+use model::number::TaskNumber;
 use model::sizes::TASKS;
 use state::bitmap::{bits, set_bits};
 use state::task;
 use state::task::READY;
 
 // The task of a number, if it is ready.
-fn ready_task(state: &[u32], n: u32) -> MaybeTask
-    requires { length state.now ≡ word_count }
+fn ready_task(state: &Words, n: u32) -> Option<TaskNumber>
     ensures { result ≡ maybe_task (ready_task (kernel state.now) n) }
 {
     let found = TaskNumber::from_word(n);
-    let MaybeTask::Task(t) = found else {
-        return MaybeTask::Nothing;
+    let Some(t) = found else {
+        return None;
     };
     if task::place(state, t) == READY {
         found
     } else {
-        MaybeTask::Nothing
+        None
     }
 }
 
 // Whether the task of a number, by its place, is ready at a priority.
-fn task_ready_at(state: &[u32], n: u32, p: u32) -> bool
-    requires { length state.now ≡ word_count }
+fn task_ready_at(state: &Words, n: u32, p: u32) -> bool
     ensures { result ≡ is_ready_at (kernel state.now) p n }
 {
     let found = ready_task(state, n);
-    let MaybeTask::Task(t) = found else {
+    let Some(t) = found else {
         return false;
     };
     task::current(state, t) == p
 }
 
 // Whether any task is.
-fn any_ready_at(state: &[u32], p: u32) -> bool
-    requires { length state.now ≡ word_count }
+fn any_ready_at(state: &Words, p: u32) -> bool
     ensures { result ≡ ready_at (facts (kernel state.now)) (kernel state.now).tasks.current p }
 {
     for n in 1..=TASKS {
@@ -62,8 +60,7 @@ fn any_ready_at(state: &[u32], p: u32) -> bool
 }
 
 // The same, one number first: a task that has become ready at the priority spares the search.
-fn any_ready_from(state: &[u32], n: u32, p: u32) -> bool
-    requires { length state.now ≡ word_count }
+fn any_ready_from(state: &Words, n: u32, p: u32) -> bool
     ensures { result ≡ ready_at (facts (kernel state.now)) (kernel state.now).tasks.current p }
 {
     if task_ready_at(state, n, p) {
@@ -73,8 +70,7 @@ fn any_ready_from(state: &[u32], n: u32, p: u32) -> bool
 }
 
 // The bit of a task's priority is worked out afresh, once the task has become ready or is so no more.
-pub fn renew_bit(state: &mut [u32], t: TaskNumber)
-    requires { length state.old ≡ word_count }
+pub fn renew_bit(state: &mut Words, t: TaskNumber)
     ensures { Represents state.new (with_fresh_bit (kernel state.old) ((kernel state.old).tasks.current ! t.0)) }
 {
     let p = task::current(state, t);
@@ -84,20 +80,18 @@ pub fn renew_bit(state: &mut [u32], t: TaskNumber)
 }
 
 // The word with the bit that the task of a number sets.
-fn with_task(state: &[u32], word: u32, n: u32) -> u32
-    requires { length state.now ≡ word_count }
+fn with_task(state: &Words, word: u32, n: u32) -> u32
     ensures { result ≡ with_task (kernel state.now) word n }
 {
     let found = ready_task(state, n);
-    let MaybeTask::Task(t) = found else {
+    let Some(t) = found else {
         return word;
     };
     with_priority(word, task::current(state, t), true)
 }
 
 // The bits of all priorities, as worked out afresh.
-pub fn fresh_bits(state: &[u32]) -> u32
-    requires { length state.now ≡ word_count }
+pub fn fresh_bits(state: &Words) -> u32
     ensures { result ≡ ready_bitmap (facts (kernel state.now)) (kernel state.now).tasks.current }
 {
     let mut word: u32 = 0;
@@ -108,8 +102,7 @@ pub fn fresh_bits(state: &[u32]) -> u32
 }
 
 // The state's bits become these, once current priorities have changed.
-pub fn renew_bits(state: &mut [u32])
-    requires { length state.old ≡ word_count }
+pub fn renew_bits(state: &mut Words)
     ensures { Represents state.new (with_fresh_bits (kernel state.old)) }
 {
     let word = fresh_bits(state);

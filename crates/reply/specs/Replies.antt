@@ -1,19 +1,11 @@
 -- What a call's functions promise: the first refusal that applies, and of a call that is carried out its answer and all that is lent.
-use Rattle.std.specs.Prelude.{ℕ, ◌≡◌, List, ◌++◌, ℤ}
-use Rattle.std.proofs.Math.Option.{Option, none, some}
+use Rattle.std.specs.Prelude.{ℕ, ◌≡◌, List, ◌++◌}
 use Rattle.model.specs.World.{World, begun}
 use Rattle.model.specs.Effect.{Done}
 use Rattle.model.specs.Log.{answer_bytes, delivery_bytes}
 use Rattle.model.specs.Lent.{Areas, lent}
 use Rattle.act.specs.Held.{areas, Start, Holds}
-use Rattle.reply.specs.declared.Verdict.{Verdict}
-use Rattle.reply.specs.declared.Verdict.TheVariants.{Allowed, Refused}
 use Rattle.reply.specs.declared.Reply.{Reply}
-
--- the first refusal as the code has it
-abbrev pub verdict : Option ℤ → Verdict
-verdict none = Allowed
-verdict (some e) = Refused e
 
 -- the world that a call begins with
 abbrev pub lent_world : Areas → World

@@ -5,13 +5,6 @@ pub mod field;
 
 use model::call::Answer;
 
-// What the table of refusals says of a call.
-#[derive(Clone, Copy)]
-pub enum Verdict {
-    Allowed,
-    Refused(i32),
-}
-
 // The answer of a call that is carried out, and the place behind the waits that it has ended.
 #[derive(Clone, Copy)]
 pub struct Reply {

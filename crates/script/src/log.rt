@@ -13,7 +13,7 @@ use super::field::{field_bytes, number_bytes};
 use super::place::{part, put, put_two};
 use model::call::Answer;
 use model::item;
-use model::number::{MaybeTask, TaskNumber};
+use model::number::TaskNumber;
 use model::sizes::MESSAGE_BYTES;
 
 // What the call is answered with.
@@ -63,7 +63,7 @@ pub fn log_block(area: &mut [u8], at: usize, task: TaskNumber, block: u32) -> us
 }
 
 // The task that runs, 0 for none.
-pub fn log_runs(area: &mut [u8], at: usize, task: MaybeTask) -> usize
+pub fn log_runs(area: &mut [u8], at: usize, task: Option<TaskNumber>) -> usize
     ensures { Appends area.old at (runs_bytes (task_word task)) area.new result }
 {
     put(area, at, &[item::RUNS, task.byte()])

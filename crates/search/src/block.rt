@@ -3,12 +3,12 @@ ghost use Rattle.std.specs.Prelude.{◌≡◌, length};
 ghost use Rattle.model.specs.Refusal.{free_block, handed_out};
 ghost use Rattle.model.specs.Words.{word_count, kernel};
 
+use state::layout::Words;
 use model::number::{PoolNumber, natural};
 
 // "the smallest free block, counted from 1", 0 if there is none. A state may say any count; the flags end, and beyond them a block reads as
 // free.
-pub fn free_block(state: &[u32], p: PoolNumber) -> u32
-    requires { length state.now ≡ word_count }
+pub fn free_block(state: &Words, p: PoolNumber) -> u32
     ensures { result ≡ free_block (kernel state.now) p.0 }
 {
     let count = state::pool::count(state, p);
@@ -22,8 +22,7 @@ pub fn free_block(state: &[u32], p: PoolNumber) -> u32
 }
 
 // "handed out by this pool", by a field of a call.
-pub fn handed_out(state: &[u32], p: PoolNumber, block: i32) -> bool
-    requires { length state.now ≡ word_count }
+pub fn handed_out(state: &Words, p: PoolNumber, block: i32) -> bool
     ensures { result ≡ handed_out (kernel state.now) p.0 block }
 {
     if block < 1 {

@@ -5,15 +5,15 @@ ghost use Rattle.model.specs.Lists.{any, up_to};
 ghost use Rattle.model.specs.Refusal.{above_ceiling};
 ghost use Rattle.model.specs.Words.{word_count, kernel};
 
+use state::layout::Words;
 use model::attribute::CEILINGED;
-use model::number::{MaybeMutex, MutexNumber, TaskNumber};
+use model::number::{MutexNumber, TaskNumber};
 use model::sizes::MUTEXES;
 use queue::front::stands_in;
 use state::task::LOCKING;
 
 // The sentence of one mutex; above is more urgent, a lesser number.
-fn above_ceiling(state: &[u32], base: u32, t: TaskNumber, m: MutexNumber) -> bool
-    requires { length state.now ≡ word_count }
+fn above_ceiling(state: &Words, base: u32, t: TaskNumber, m: MutexNumber) -> bool
     ensures { result ≡ above_ceiling (kernel state.now) base t.0 m.0 }
 {
     let attribute = state::mutex::attribute(state, m);
@@ -25,13 +25,12 @@ fn above_ceiling(state: &[u32], base: u32, t: TaskNumber, m: MutexNumber) -> boo
 }
 
 // The same of every mutex. Each number of the loop names one, so no answer is given for want of one.
-pub fn above_any_ceiling(state: &[u32], base: u32, t: TaskNumber) -> bool
-    requires { length state.now ≡ word_count }
+pub fn above_any_ceiling(state: &Words, base: u32, t: TaskNumber) -> bool
     ensures { result ≡ any (above_ceiling (kernel state.now) base t.0) (up_to mutexes) }
 {
     for n in 1..=MUTEXES {
         let found = MutexNumber::from_word(n);
-        let MaybeMutex::Mutex(m) = found else {
+        let Some(m) = found else {
             return false;
         };
         if above_ceiling(state, base, t, m) {

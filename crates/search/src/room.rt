@@ -5,12 +5,12 @@ ghost use Rattle.model.specs.Lists.{◌!◌};
 ghost use Rattle.model.specs.Refusal.{pool_sum};
 ghost use Rattle.model.specs.Words.{word_count, kernel};
 
-use model::number::{MaybePool, PoolNumber};
+use state::layout::Words;
+use model::number::PoolNumber;
 use model::sizes::{POOL_BYTES, POOLS};
 
 // A pool's bytes; any two words have a product.
-fn bytes(state: &[u32], p: PoolNumber) -> usize
-    requires { length state.now ≡ word_count }
+fn bytes(state: &Words, p: PoolNumber) -> usize
     ensures { result ≡ (kernel state.now).pools.count ! p.0 * (kernel state.now).pools.size ! p.0 }
 {
     let count = state::pool::count(state, p);
@@ -20,8 +20,7 @@ fn bytes(state: &[u32], p: PoolNumber) -> usize
 
 // What is left for pools is counted down, since the sum of all pools' products need not be a machine number. Each number of the loop names a
 // pool, so no answer is given for want of one.
-pub fn pools_exceed(state: &[u32], more: usize) -> bool
-    requires { length state.now ≡ word_count }
+pub fn pools_exceed(state: &Words, more: usize) -> bool
     ensures { result ≡ ltb pool_bytes (pool_sum (kernel state.now) + more) }
 {
     let mut room = POOL_BYTES as usize;
@@ -31,7 +30,7 @@ pub fn pools_exceed(state: &[u32], more: usize) -> bool
     room -= more;
     for n in 1..=POOLS {
         let found = PoolNumber::from_word(n);
-        let MaybePool::Pool(p) = found else {
+        let Some(p) = found else {
             return true;
         };
         let taken = bytes(state, p);

@@ -8,27 +8,26 @@ ghost use Rattle.model.specs.World.{queue_front};
 ghost use Rattle.model.specs.Act.{first_fits};
 ghost use Rattle.model.specs.Words.{word_count, kernel};
 
+use state::layout::Words;
 use message::room::room;
-use model::number::{BufferNumber, MaybeTask, TaskNumber};
+use model::number::{BufferNumber, TaskNumber};
 use model::sizes::TASKS;
 use queue::front::front;
 use state::task::SENDING;
 
-fn sends(state: &[u32], t: TaskNumber) -> bool
-    requires { length state.now ≡ word_count }
+fn sends(state: &Words, t: TaskNumber) -> bool
     ensures { result ≡ eqb ((kernel state.now).tasks.place ! t.0) sending }
 {
     state::task::place(state, t) == SENDING
 }
 
 // Whether any task waits to send. Each number of the loop names a task, so no answer is given for want of one.
-pub fn anyone_sends(state: &[u32]) -> bool
-    requires { length state.now ≡ word_count }
+pub fn anyone_sends(state: &Words) -> bool
     ensures { result ≡ any (λ t. eqb ((kernel state.now).tasks.place ! t) sending) (up_to tasks) }
 {
     for n in 1..=TASKS {
         let found = TaskNumber::from_word(n);
-        let MaybeTask::Task(t) = found else {
+        let Some(t) = found else {
             return false;
         };
         if sends(state, t) {
@@ -39,19 +38,18 @@ pub fn anyone_sends(state: &[u32]) -> bool
 }
 
 // The first sender of a buffer, if its message fits.
-pub fn first_fitting(state: &[u32], b: BufferNumber) -> MaybeTask
-    requires { length state.now ≡ word_count }
+pub fn first_fitting(state: &Words, b: BufferNumber) -> Option<TaskNumber>
     ensures { result ≡ maybe_task (cond (first_fits (kernel state.now) b.0) (queue_front (kernel state.now) (queue sending b.0)) 0) }
 {
     let found = front(state, SENDING, b.word());
-    let MaybeTask::Task(t) = found else {
-        return MaybeTask::Nothing;
+    let Some(t) = found else {
+        return None;
     };
     let used = state::buffer::used(state, b);
     let bufsz = state::buffer::bufsz(state, b);
     let length = state::task::argument(state, t);
     if room(bufsz, used, length) < 0 {
-        return MaybeTask::Nothing;
+        return None;
     }
     found
 }

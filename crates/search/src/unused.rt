@@ -6,72 +6,66 @@ ghost use Rattle.model.specs.Number.{maybe_task, maybe_mutex, maybe_buffer, mayb
 ghost use Rattle.model.specs.Act.{unused};
 ghost use Rattle.model.specs.Words.{word_count, kernel};
 
-use model::number::{
-    BufferNumber, MaybeBuffer, MaybeMutex, MaybePool, MaybeTask, MutexNumber, PoolNumber,
-    TaskNumber,
-};
+use state::layout::Words;
+use model::number::{BufferNumber, MutexNumber, PoolNumber, TaskNumber};
 use model::sizes::{BUFFERS, MUTEXES, POOLS, TASKS};
 
-pub fn unused_task(state: &[u32]) -> MaybeTask
-    requires { length state.now ≡ word_count }
+pub fn unused_task(state: &Words) -> Option<TaskNumber>
     ensures { result ≡ maybe_task (unused (kernel state.now).tasks.place tasks) }
 {
     for n in 1..=TASKS {
         let found = TaskNumber::from_word(n);
-        let MaybeTask::Task(t) = found else {
-            return MaybeTask::Nothing;
+        let Some(t) = found else {
+            return None;
         };
         if state::task::place(state, t) == state::task::ABSENT {
             return found;
         }
     }
-    MaybeTask::Nothing
+    None
 }
 
-pub fn unused_mutex(state: &[u32]) -> MaybeMutex
-    requires { length state.now ≡ word_count }
+pub fn unused_mutex(state: &Words) -> Option<MutexNumber>
     ensures { result ≡ maybe_mutex (unused (kernel state.now).mutexes.exists mutexes) }
 {
     for n in 1..=MUTEXES {
         let found = MutexNumber::from_word(n);
-        let MaybeMutex::Mutex(m) = found else {
-            return MaybeMutex::Nothing;
+        let Some(m) = found else {
+            return None;
         };
         if state::mutex::exists(state, m) == 0 {
             return found;
         }
     }
-    MaybeMutex::Nothing
+    None
 }
 
-pub fn unused_buffer(state: &[u32]) -> MaybeBuffer
-    requires { length state.now ≡ word_count }
+pub fn unused_buffer(state: &Words) -> Option<BufferNumber>
     ensures { result ≡ maybe_buffer (unused (kernel state.now).buffers.exists buffers) }
 {
     for n in 1..=BUFFERS {
         let found = BufferNumber::from_word(n);
-        let MaybeBuffer::Buffer(b) = found else {
-            return MaybeBuffer::Nothing;
+        let Some(b) = found else {
+            return None;
         };
         if state::buffer::exists(state, b) == 0 {
             return found;
         }
     }
-    MaybeBuffer::Nothing
+    None
 }
 
-pub fn unused_pool(state: &[u32]) -> MaybePool
-    requires { length state.now ≡ word_count }
+pub fn unused_pool(state: &Words) -> Option<PoolNumber>
     ensures { result ≡ maybe_pool (unused (kernel state.now).pools.exists pools) }
 {
     for n in 1..=POOLS {
         let found = PoolNumber::from_word(n);
-        let MaybePool::Pool(p) = found else {
-            return MaybePool::Nothing;
+        let Some(p) = found else {
+            return None;
         };
         if state::pool::exists(state, p) == 0 {
             return found;
         }
     }
-    MaybePool::Nothing
+    None
 }

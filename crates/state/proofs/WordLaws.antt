@@ -10,7 +10,13 @@ use Rattle.model.specs.Kernel.{Kernel}
 use Rattle.model.specs.Words.{cut, sizes, word_count, from_fields, fields, kernel, words}
 use Rattle.model.specs.Field as field
 use Rattle.state.specs.Words.{Represents}
+use Rattle.state.specs.declared.layout.TheConstants.{WORDS}
 use Rattle.state.proofs.LayoutLaws.{joined-cut, cut-joined, lengths-cut, length-joined}
+
+-- an array of words has as many as the definitions say
+pub long : (w : List ℕ) → length w ≡ WORDS → length w ≡ word_count
+unfolding sizes
+long w e = e
 
 -- each list of the kernel has its field's size
 unfoldable pub Sized : Kernel → Type 0

@@ -5,17 +5,15 @@ ghost use Rattle.model.specs.Kernel.{with_bitmap};
 ghost use Rattle.model.specs.Words.{word_count, kernel};
 ghost use Rattle.state.specs.Words.{Represents};
 
-use super::layout::{BITMAP, BITMAP_SLOTS, get, put};
+use super::layout::{BITMAP, BITMAP_SLOTS, Words, get, put};
 
-pub fn bits(state: &[u32]) -> u32
-    requires { length state.now ≡ word_count }
+pub fn bits(state: &Words) -> u32
     ensures { result ≡ (kernel state.now).bitmap ! 0 }
 {
     get(state, BITMAP, BITMAP_SLOTS, 0)
 }
 
-pub fn set_bits(state: &mut [u32], v: u32)
-    requires { length state.old ≡ word_count }
+pub fn set_bits(state: &mut Words, v: u32)
     ensures { Represents state.new (with_bitmap (kernel state.old) v) }
 {
     put(state, BITMAP, BITMAP_SLOTS, 0, v);

@@ -70,11 +70,13 @@ pub(crate) const SIZE: usize = COUNT + POOL_SLOTS;
 
 pub(crate) const TAKEN: usize = SIZE + POOL_SLOTS;
 
-// The words of a state.
+// The words of a state, and an area of as many.
 pub const WORDS: usize = TAKEN + TAKEN_SLOTS;
 
+pub type Words = [u32; WORDS];
+
 // An entry of a field of so many slots; 0 outside them.
-pub(crate) fn get(state: &[u32], at: usize, slots: usize, i: usize) -> u32
+pub(crate) fn get(state: &Words, at: usize, slots: usize, i: usize) -> u32
     requires { at + slots ≤ length state.now }
     ensures { result ≡ entry state.now at slots i }
 {
@@ -82,20 +84,11 @@ pub(crate) fn get(state: &[u32], at: usize, slots: usize, i: usize) -> u32
 }
 
 // An entry of a field is stored; outside the slots nothing is done.
-pub(crate) fn put(state: &mut [u32], at: usize, slots: usize, i: usize, v: u32)
+pub(crate) fn put(state: &mut Words, at: usize, slots: usize, i: usize, v: u32)
     requires { at + slots ≤ length state.old }
     ensures { state.new ≡ with_entry state.old at slots i v }
 {
     if i < slots {
         state[at + i] = v;
-    }
-}
-
-// All words become 0.
-pub(crate) fn clear(state: &mut [u32])
-    ensures { state.new ≡ zeros (length state.old) }
-{
-    for i in 0..state.len() {
-        state[i] = 0;
     }
 }

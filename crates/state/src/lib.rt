@@ -11,7 +11,12 @@ pub mod none;
 pub mod pool;
 pub mod task;
 
+ghost use Rattle.std.specs.Prelude.{◌≡◌};
+ghost use Rattle.model.specs.Kernel.{fresh};
+ghost use Rattle.model.specs.Words.{words};
 ghost use Rattle.state.specs.Fresh.{Filling};
+
+use layout::{TASK_SLOTS, Words, put};
 
 // The task of a fresh state, and its priority.
 const FIRST: usize = 1;
@@ -20,32 +25,35 @@ const PRIORITY: u32 = 8;
 
 const PRIORITY_BIT: u32 = 1 << (PRIORITY - 1);
 
-// Whether an area was filled, or left alone because it has not the length of a state.
+// An area that has not the length of a state is left alone.
 #[derive(Clone, Copy)]
-pub enum Filled {
-    Done,
-    WrongLength,
-}
+pub struct WrongLength;
 
 // A lent area becomes the fresh state: one task, which runs, and nothing else.
-pub fn fresh(state: &mut [u32]) -> Filled
+pub fn fresh(state: &mut [u32]) -> Result<(), WrongLength>
     ensures { Filling state.old result state.new }
 {
-    if state.len() != layout::WORDS {
-        return Filled::WrongLength;
-    }
-    layout::clear(state);
-    layout::put(state, layout::PLACE, layout::TASK_SLOTS, FIRST, task::READY);
-    layout::put(state, layout::INITIAL, layout::TASK_SLOTS, FIRST, PRIORITY);
-    layout::put(state, layout::BASE, layout::TASK_SLOTS, FIRST, PRIORITY);
-    layout::put(state, layout::CURRENT, layout::TASK_SLOTS, FIRST, PRIORITY);
-    layout::put(
+    let Some(words) = state.as_mut_array() else {
+        return Err(WrongLength);
+    };
+    fill(words);
+    Ok(())
+}
+
+fn fill(state: &mut Words)
+    ensures { state.new ≡ words fresh }
+{
+    *state = [0; layout::WORDS];
+    put(state, layout::PLACE, TASK_SLOTS, FIRST, task::READY);
+    put(state, layout::INITIAL, TASK_SLOTS, FIRST, PRIORITY);
+    put(state, layout::BASE, TASK_SLOTS, FIRST, PRIORITY);
+    put(state, layout::CURRENT, TASK_SLOTS, FIRST, PRIORITY);
+    put(
         state,
         layout::ARRIVALS,
         layout::ARRIVAL_SLOTS,
         0,
         FIRST as u32,
     );
-    layout::put(state, layout::BITMAP, layout::BITMAP_SLOTS, 0, PRIORITY_BIT);
-    Filled::Done
+    put(state, layout::BITMAP, layout::BITMAP_SLOTS, 0, PRIORITY_BIT);
 }

@@ -12,11 +12,11 @@ use super::layout::{
     ARGUMENT, BASE, BLOCK_SLOTS, BUFFER_ATTRIBUTE, BUFFER_EXISTS, BUFFER_SLOTS, BUFSZ, CEILING,
     COUNT, CURRENT, HOLDER, INITIAL, LEFT, MAXMSZ, MUTEX_ATTRIBUTE, MUTEX_EXISTS, MUTEX_SLOTS,
     OBJECT, PLACE, POOL_ATTRIBUTE, POOL_EXISTS, POOL_SLOTS, SIZE, TAKEN, TAKEN_SLOTS, TASK_SLOTS,
-    USED, get,
+    USED, Words, get,
 };
 
 // Whether a field's entry 0 is 0.
-fn zero(state: &[u32], at: usize, slots: usize) -> bool
+fn zero(state: &Words, at: usize, slots: usize) -> bool
     requires { at + slots ≤ length state.now }
     ensures { result ≡ eqb (entry state.now at slots 0) 0 }
 {
@@ -24,8 +24,7 @@ fn zero(state: &[u32], at: usize, slots: usize) -> bool
 }
 
 // The same of every list of tasks, mutexes, buffers and pools.
-pub fn tasks_zero(state: &[u32]) -> bool
-    requires { length state.now ≡ word_count }
+pub fn tasks_zero(state: &Words) -> bool
     ensures { result ≡ lists tasks (task_lists (kernel state.now)) }
 {
     zero(state, PLACE, TASK_SLOTS)
@@ -37,8 +36,7 @@ pub fn tasks_zero(state: &[u32]) -> bool
         & zero(state, LEFT, TASK_SLOTS)
 }
 
-pub fn mutexes_zero(state: &[u32]) -> bool
-    requires { length state.now ≡ word_count }
+pub fn mutexes_zero(state: &Words) -> bool
     ensures { result ≡ lists mutexes (mutex_lists (kernel state.now)) }
 {
     zero(state, MUTEX_EXISTS, MUTEX_SLOTS)
@@ -47,8 +45,7 @@ pub fn mutexes_zero(state: &[u32]) -> bool
         & zero(state, HOLDER, MUTEX_SLOTS)
 }
 
-pub fn buffers_zero(state: &[u32]) -> bool
-    requires { length state.now ≡ word_count }
+pub fn buffers_zero(state: &Words) -> bool
     ensures { result ≡ lists buffers (buffer_lists (kernel state.now)) }
 {
     zero(state, BUFFER_EXISTS, BUFFER_SLOTS)
@@ -58,8 +55,7 @@ pub fn buffers_zero(state: &[u32]) -> bool
         & zero(state, USED, BUFFER_SLOTS)
 }
 
-pub fn pools_zero(state: &[u32]) -> bool
-    requires { length state.now ≡ word_count }
+pub fn pools_zero(state: &Words) -> bool
     ensures { result ≡ lists pools (pool_lists (kernel state.now)) }
 {
     zero(state, POOL_EXISTS, POOL_SLOTS)
@@ -69,15 +65,13 @@ pub fn pools_zero(state: &[u32]) -> bool
 }
 
 // The flags of pool 0, which is none, are 0.
-fn flag_zero(state: &[u32], b: usize) -> bool
-    requires { length state.now ≡ word_count }
+fn flag_zero(state: &Words, b: usize) -> bool
     ensures { result ≡ eqb ((kernel state.now).pools.taken ! slot 0 b) 0 }
 {
     get(state, TAKEN, TAKEN_SLOTS, b) == 0
 }
 
-pub fn flags_zero(state: &[u32]) -> bool
-    requires { length state.now ≡ word_count }
+pub fn flags_zero(state: &Words) -> bool
     ensures { result ≡ all (λ b. eqb ((kernel state.now).pools.taken ! slot 0 b) 0) (count_from 0 (suc blocks)) }
 {
     for b in 0..BLOCK_SLOTS {

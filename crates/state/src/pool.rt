@@ -6,65 +6,58 @@ ghost use Rattle.model.specs.Words.{word_count, kernel};
 ghost use Rattle.state.specs.Words.{Represents};
 
 use super::layout::{
-    BLOCK_SLOTS, COUNT, POOL_ATTRIBUTE, POOL_EXISTS, POOL_SLOTS, SIZE, TAKEN, TAKEN_SLOTS, get, put,
+    BLOCK_SLOTS, COUNT, POOL_ATTRIBUTE, POOL_EXISTS, POOL_SLOTS, SIZE, TAKEN, TAKEN_SLOTS, Words,
+    get, put,
 };
 use model::number::PoolNumber;
 
 // 1 if the pool exists, else 0.
-pub fn exists(state: &[u32], p: PoolNumber) -> u32
-    requires { length state.now ≡ word_count }
+pub fn exists(state: &Words, p: PoolNumber) -> u32
     ensures { result ≡ (kernel state.now).pools.exists ! p.0 }
 {
     get(state, POOL_EXISTS, POOL_SLOTS, p.word() as usize)
 }
 
-pub fn set_exists(state: &mut [u32], p: PoolNumber, v: u32)
-    requires { length state.old ≡ word_count }
+pub fn set_exists(state: &mut Words, p: PoolNumber, v: u32)
     ensures { Represents state.new (with_pool_exists (kernel state.old) p.0 v) }
 {
     put(state, POOL_EXISTS, POOL_SLOTS, p.word() as usize, v);
 }
 
 // The attribute as it was given.
-pub fn attribute(state: &[u32], p: PoolNumber) -> u32
-    requires { length state.now ≡ word_count }
+pub fn attribute(state: &Words, p: PoolNumber) -> u32
     ensures { result ≡ (kernel state.now).pools.attribute ! p.0 }
 {
     get(state, POOL_ATTRIBUTE, POOL_SLOTS, p.word() as usize)
 }
 
-pub fn set_attribute(state: &mut [u32], p: PoolNumber, v: u32)
-    requires { length state.old ≡ word_count }
+pub fn set_attribute(state: &mut Words, p: PoolNumber, v: u32)
     ensures { Represents state.new (with_pool_attribute (kernel state.old) p.0 v) }
 {
     put(state, POOL_ATTRIBUTE, POOL_SLOTS, p.word() as usize, v);
 }
 
 // How many blocks.
-pub fn count(state: &[u32], p: PoolNumber) -> u32
-    requires { length state.now ≡ word_count }
+pub fn count(state: &Words, p: PoolNumber) -> u32
     ensures { result ≡ (kernel state.now).pools.count ! p.0 }
 {
     get(state, COUNT, POOL_SLOTS, p.word() as usize)
 }
 
-pub fn set_count(state: &mut [u32], p: PoolNumber, v: u32)
-    requires { length state.old ≡ word_count }
+pub fn set_count(state: &mut Words, p: PoolNumber, v: u32)
     ensures { Represents state.new (with_count (kernel state.old) p.0 v) }
 {
     put(state, COUNT, POOL_SLOTS, p.word() as usize, v);
 }
 
 // Bytes of a block.
-pub fn size(state: &[u32], p: PoolNumber) -> u32
-    requires { length state.now ≡ word_count }
+pub fn size(state: &Words, p: PoolNumber) -> u32
     ensures { result ≡ (kernel state.now).pools.size ! p.0 }
 {
     get(state, SIZE, POOL_SLOTS, p.word() as usize)
 }
 
-pub fn set_size(state: &mut [u32], p: PoolNumber, v: u32)
-    requires { length state.old ≡ word_count }
+pub fn set_size(state: &mut Words, p: PoolNumber, v: u32)
     ensures { Represents state.new (with_size (kernel state.old) p.0 v) }
 {
     put(state, SIZE, POOL_SLOTS, p.word() as usize, v);
@@ -79,15 +72,13 @@ fn flag(p: PoolNumber, block: u32) -> usize
 }
 
 // 1 if the block is handed out, else 0.
-pub fn taken(state: &[u32], p: PoolNumber, block: u32) -> u32
-    requires { length state.now ≡ word_count }
+pub fn taken(state: &Words, p: PoolNumber, block: u32) -> u32
     ensures { result ≡ (kernel state.now).pools.taken ! slot p.0 block }
 {
     get(state, TAKEN, TAKEN_SLOTS, flag(p, block))
 }
 
-pub fn set_taken(state: &mut [u32], p: PoolNumber, block: u32, v: u32)
-    requires { length state.old ≡ word_count }
+pub fn set_taken(state: &mut Words, p: PoolNumber, block: u32, v: u32)
     ensures { Represents state.new (with_taken (kernel state.old) (slot p.0 block) v) }
 {
     put(state, TAKEN, TAKEN_SLOTS, flag(p, block), v);

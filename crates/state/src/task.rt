@@ -8,7 +8,8 @@ ghost use Rattle.model.specs.Words.{word_count, kernel};
 ghost use Rattle.state.specs.Words.{Represents};
 
 use super::layout::{
-    ARGUMENT, ARRIVAL_SLOTS, BASE, CURRENT, INITIAL, LEFT, OBJECT, PLACE, TASK_SLOTS, get, put,
+    ARGUMENT, ARRIVAL_SLOTS, BASE, CURRENT, INITIAL, LEFT, OBJECT, PLACE, TASK_SLOTS, Words, get,
+    put,
 };
 use model::number::TaskNumber;
 
@@ -28,121 +29,105 @@ pub const RECEIVING: u32 = 5;
 pub const GETTING: u32 = 6;
 
 // Where the task stands: one of the places above.
-pub fn place(state: &[u32], t: TaskNumber) -> u32
-    requires { length state.now ≡ word_count }
+pub fn place(state: &Words, t: TaskNumber) -> u32
     ensures { result ≡ (kernel state.now).tasks.place ! t.0 }
 {
     get(state, PLACE, TASK_SLOTS, t.word() as usize)
 }
 
-pub fn set_place(state: &mut [u32], t: TaskNumber, v: u32)
-    requires { length state.old ≡ word_count }
+pub fn set_place(state: &mut Words, t: TaskNumber, v: u32)
     ensures { Represents state.new (with_place (kernel state.old) t.0 v) }
 {
     put(state, PLACE, TASK_SLOTS, t.word() as usize, v);
 }
 
 // The number of the object waited for.
-pub fn object(state: &[u32], t: TaskNumber) -> u32
-    requires { length state.now ≡ word_count }
+pub fn object(state: &Words, t: TaskNumber) -> u32
     ensures { result ≡ (kernel state.now).tasks.object ! t.0 }
 {
     get(state, OBJECT, TASK_SLOTS, t.word() as usize)
 }
 
-pub fn set_object(state: &mut [u32], t: TaskNumber, v: u32)
-    requires { length state.old ≡ word_count }
+pub fn set_object(state: &mut Words, t: TaskNumber, v: u32)
     ensures { Represents state.new (with_object (kernel state.old) t.0 v) }
 {
     put(state, OBJECT, TASK_SLOTS, t.word() as usize, v);
 }
 
 // Of the wait: a sender's message length.
-pub fn argument(state: &[u32], t: TaskNumber) -> u32
-    requires { length state.now ≡ word_count }
+pub fn argument(state: &Words, t: TaskNumber) -> u32
     ensures { result ≡ (kernel state.now).tasks.argument ! t.0 }
 {
     get(state, ARGUMENT, TASK_SLOTS, t.word() as usize)
 }
 
-pub fn set_argument(state: &mut [u32], t: TaskNumber, v: u32)
-    requires { length state.old ≡ word_count }
+pub fn set_argument(state: &mut Words, t: TaskNumber, v: u32)
     ensures { Represents state.new (with_argument (kernel state.old) t.0 v) }
 {
     put(state, ARGUMENT, TASK_SLOTS, t.word() as usize, v);
 }
 
 // The initial priority.
-pub fn initial(state: &[u32], t: TaskNumber) -> u32
-    requires { length state.now ≡ word_count }
+pub fn initial(state: &Words, t: TaskNumber) -> u32
     ensures { result ≡ (kernel state.now).tasks.initial ! t.0 }
 {
     get(state, INITIAL, TASK_SLOTS, t.word() as usize)
 }
 
-pub fn set_initial(state: &mut [u32], t: TaskNumber, v: u32)
-    requires { length state.old ≡ word_count }
+pub fn set_initial(state: &mut Words, t: TaskNumber, v: u32)
     ensures { Represents state.new (with_initial (kernel state.old) t.0 v) }
 {
     put(state, INITIAL, TASK_SLOTS, t.word() as usize, v);
 }
 
 // The base priority.
-pub fn base(state: &[u32], t: TaskNumber) -> u32
-    requires { length state.now ≡ word_count }
+pub fn base(state: &Words, t: TaskNumber) -> u32
     ensures { result ≡ (kernel state.now).tasks.base ! t.0 }
 {
     get(state, BASE, TASK_SLOTS, t.word() as usize)
 }
 
-pub fn set_base(state: &mut [u32], t: TaskNumber, v: u32)
-    requires { length state.old ≡ word_count }
+pub fn set_base(state: &mut Words, t: TaskNumber, v: u32)
     ensures { Represents state.new (with_base (kernel state.old) t.0 v) }
 {
     put(state, BASE, TASK_SLOTS, t.word() as usize, v);
 }
 
 // The current priority.
-pub fn current(state: &[u32], t: TaskNumber) -> u32
-    requires { length state.now ≡ word_count }
+pub fn current(state: &Words, t: TaskNumber) -> u32
     ensures { result ≡ (kernel state.now).tasks.current ! t.0 }
 {
     get(state, CURRENT, TASK_SLOTS, t.word() as usize)
 }
 
-pub fn set_current(state: &mut [u32], t: TaskNumber, v: u32)
-    requires { length state.old ≡ word_count }
+pub fn set_current(state: &mut Words, t: TaskNumber, v: u32)
     ensures { Represents state.new (with_current (kernel state.old) t.0 v) }
 {
     put(state, CURRENT, TASK_SLOTS, t.word() as usize, v);
 }
 
 // Milliseconds left of a wait; the largest word for a wait without end, 0 for no wait.
-pub fn left(state: &[u32], t: TaskNumber) -> u32
-    requires { length state.now ≡ word_count }
+pub fn left(state: &Words, t: TaskNumber) -> u32
     ensures { result ≡ (kernel state.now).tasks.left ! t.0 }
 {
     get(state, LEFT, TASK_SLOTS, t.word() as usize)
 }
 
-pub fn set_left(state: &mut [u32], t: TaskNumber, v: u32)
-    requires { length state.old ≡ word_count }
+pub fn set_left(state: &mut Words, t: TaskNumber, v: u32)
     ensures { Represents state.new (with_left (kernel state.old) t.0 v) }
 {
     put(state, LEFT, TASK_SLOTS, t.word() as usize, v);
 }
 
 // One entry of the current priorities, also that of none.
-fn put_current(state: &mut [u32], i: usize, v: u32)
-    requires { length state.old ≡ word_count }
+fn put_current(state: &mut Words, i: usize, v: u32)
     ensures { Represents state.new (with_current (kernel state.old) i v) }
 {
     put(state, CURRENT, TASK_SLOTS, i, v);
 }
 
 // Every task's current priority becomes one number; none's is 0. All are worked out anew from here.
-pub fn set_every_current(state: &mut [u32], v: u32)
-    requires { length state.old ≡ word_count }
+pub fn set_every_current(state: &mut Words, v: u32)
     ensures { Represents state.new (with_currents (kernel state.old) (0 ∷ replicate tasks v)) }
 {
     put_current(state, 0, 0);

@@ -5,30 +5,30 @@ ghost use Rattle.model.specs.Valid.{Bitmap};
 ghost use Rattle.model.specs.Words.{word_count, kernel};
 ghost use Rattle.status.specs.Rows.{Asked, is_there, task_state, awaited_kind, TimeFits, shown_time, task_row};
 
+use state::layout::Words;
 use super::row::{TTS_DMT, TTS_RDY, TTS_RUN, TTS_WAI, TaskRow};
 use super::waiter::number_of;
 use model::kind::{CRE_MBF, CRE_MPF, CRE_MTX};
-use model::number::{MaybeTask, TaskNumber};
+use model::number::TaskNumber;
 use model::sizes::ENDLESS;
 use queue::next::next_to_run;
 use state::task::{ABSENT, DORMANT, GETTING, LOCKING, READY, RECEIVING, SENDING};
 
 // Whether there is a task whose row, counted from 0, is row i.
-pub fn is_there(state: &[u32], i: usize) -> bool
-    requires { (length state.now ≡ word_count) × (i < tasks) }
+pub fn is_there(state: &Words, i: usize) -> bool
+    requires { i < tasks }
     ensures { result ≡ is_there (kernel state.now).tasks.place (suc i) }
 {
     let found = TaskNumber::from_word(i as u32 + 1);
-    let MaybeTask::Task(t) = found else {
+    let Some(t) = found else {
         return false;
     };
     state::task::place(state, t) != ABSENT
 }
 
 // "1 running, 2 ready, 4 waiting, 16 dormant".
-fn task_state(state: &[u32], t: TaskNumber) -> u32
-    requires state_len { length state.now ≡ word_count }
-    requires bitmap { Bitmap (kernel state.now) }
+fn task_state(state: &Words, t: TaskNumber) -> u32
+    requires { Bitmap (kernel state.now) }
     ensures { result ≡ task_state (kernel state.now) t.0 }
 {
     let place = state::task::place(state, t);
@@ -46,8 +46,7 @@ fn task_state(state: &[u32], t: TaskNumber) -> u32
 }
 
 // The kind of the call that created what the task waits for, 0 if it does not wait.
-fn awaited_kind(state: &[u32], t: TaskNumber) -> u32
-    requires { length state.now ≡ word_count }
+fn awaited_kind(state: &Words, t: TaskNumber) -> u32
     ensures { result ≡ awaited_kind (kernel state.now) t.0 }
 {
     let place = state::task::place(state, t);
@@ -69,12 +68,12 @@ fn shown_time(left: u32) -> i32
 }
 
 // The row of the task whose row, counted from 0, is row i.
-pub fn row(state: &[u32], store: &[u8], outbox: &[u8], i: usize) -> TaskRow
+pub fn row(state: &Words, store: &[u8], outbox: &[u8], i: usize) -> TaskRow
     requires { Asked tasks (is_there (kernel state.now).tasks.place) state.now store.now outbox.now i }
     ensures { result ≡ task_row (kernel state.now) (suc i) }
 {
     let found = TaskNumber::from_word(i as u32 + 1);
-    let MaybeTask::Task(t) = found else {
+    let Some(t) = found else {
         return TaskRow {
             state: 0,
             base: 0,

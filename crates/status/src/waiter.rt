@@ -5,22 +5,22 @@ ghost use Rattle.model.specs.Number.{task_word};
 ghost use Rattle.model.specs.World.{queue_front};
 ghost use Rattle.model.specs.Words.{word_count, kernel};
 
-use model::number::MaybeTask;
+use state::layout::Words;
+use model::number::TaskNumber;
 use queue::front::front;
 
 // A task as a number, 0 for none.
-pub fn number_of(found: MaybeTask) -> u32
+pub fn number_of(found: Option<TaskNumber>) -> u32
     ensures { result ≡ task_word found }
 {
     match found {
-        MaybeTask::Task(t) => t.word(),
-        MaybeTask::Nothing => 0,
+        Some(t) => t.word(),
+        None => 0,
     }
 }
 
 // The first of a queue, which is named by the place that its tasks have and the number of the object that they wait for.
-pub fn first_of(state: &[u32], place: u32, object: u32) -> u32
-    requires { length state.now ≡ word_count }
+pub fn first_of(state: &Words, place: u32, object: u32) -> u32
     ensures { result ≡ queue_front (kernel state.now) (queue place object) }
 {
     number_of(front(state, place, object))

@@ -7,24 +7,26 @@ ghost use Rattle.model.specs.World.{running, recompute as recomputed};
 ghost use Rattle.model.specs.Kernel.{with_base};
 ghost use Rattle.model.specs.Refusal.{first_refusal, chosen_task, chosen_base, chg_pri_refusals};
 ghost use Rattle.model.specs.Effect.{rejoin as rejoined, chg_pri};
+ghost use Rattle.model.specs.Errors.{refusal_of};
 ghost use Rattle.model.specs.Words.{word_count, kernel};
 ghost use Rattle.state.specs.Words.{Represents};
-ghost use Rattle.reply.specs.Replies.{verdict, CarriesInWords};
+ghost use Rattle.reply.specs.Replies.{CarriesInWords};
 
+use state::layout::Words;
 use act::task::rejoin;
 use model::call::Answer;
-use model::code::{E_ID, E_ILUSE, E_NOEXS, E_OK, E_PAR};
-use model::number::{MaybeTask, TaskNumber, natural};
+use model::code::{E_OK, Error};
+use model::number::{TaskNumber, natural};
 use model::sizes::{PRIORITIES, TASKS};
 use priority::recompute;
 use reply::field::outside;
-use reply::{Reply, Verdict};
+use reply::Reply;
 use script::log::log_answer;
 use search::ceiling::above_any_ceiling;
 use state::task::{ABSENT, initial, place, set_base};
 
 // "task 0 is the caller in chg_pri only"
-fn chosen_task(state: &[u32], caller: TaskNumber, task: i32) -> MaybeTask
+fn chosen_task(state: &[u32], caller: TaskNumber, task: i32) -> Option<TaskNumber>
     requires { caller.0 ≡ running (kernel state.now) }
     ensures { result ≡ maybe_task (word_number (chosen_task (kernel state.now) task) tasks) }
 {
@@ -36,8 +38,7 @@ fn chosen_task(state: &[u32], caller: TaskNumber, task: i32) -> MaybeTask
 }
 
 // "0 means the initial priority"
-fn chosen_base(state: &[u32], t: TaskNumber, priority: i32) -> u32
-    requires { length state.now ≡ word_count }
+fn chosen_base(state: &Words, t: TaskNumber, priority: i32) -> u32
     ensures { result ≡ chosen_base (kernel state.now) t.0 priority }
 {
     let p = natural(priority);
@@ -47,34 +48,32 @@ fn chosen_base(state: &[u32], t: TaskNumber, priority: i32) -> u32
     p
 }
 
-pub fn refuse_chg_pri(state: &[u32], caller: TaskNumber, task: i32, priority: i32) -> Verdict
-    requires state_len { length state.now ≡ word_count }
+pub fn refuse_chg_pri(state: &Words, caller: TaskNumber, task: i32, priority: i32) -> Result<(), Error>
     requires caller_value { caller.0 ≡ running (kernel state.now) }
     requires le_caller { 1 ≤ caller.0 }
-    ensures { result ≡ verdict (first_refusal (chg_pri_refusals (kernel state.now) task priority)) }
+    ensures { refusal_of result ≡ first_refusal (chg_pri_refusals (kernel state.now) task priority) }
 {
     if outside(0, PRIORITIES as i32, priority) {
-        return Verdict::Refused(E_PAR);
+        return Err(Error::Par);
     }
     if outside(0, TASKS as i32, task) {
-        return Verdict::Refused(E_ID);
+        return Err(Error::Id);
     }
     let found = chosen_task(state, caller, task);
-    let MaybeTask::Task(t) = found else {
-        return Verdict::Refused(E_ID);
+    let Some(t) = found else {
+        return Err(Error::Id);
     };
     if place(state, t) == ABSENT {
-        return Verdict::Refused(E_NOEXS);
+        return Err(Error::Noexs);
     }
     if above_any_ceiling(state, chosen_base(state, t, priority), t) {
-        return Verdict::Refused(E_ILUSE);
+        return Err(Error::Iluse);
     }
-    Verdict::Allowed
+    Ok(())
 }
 
 // The task's base is changed and priorities are settled; then it may join its queue anew.
-fn change_base(state: &mut [u32], t: TaskNumber, base: u32)
-    requires { length state.old ≡ word_count }
+fn change_base(state: &mut Words, t: TaskNumber, base: u32)
     ensures { Represents state.new (rejoined (recomputed (with_base (kernel state.old) t.0 base)) t.0) }
 {
     set_base(state, t, base);
@@ -84,14 +83,13 @@ fn change_base(state: &mut [u32], t: TaskNumber, base: u32)
 
 // A task is chosen, since nothing refuses the call.
 pub fn chg_pri(
-    state: &mut [u32],
+    state: &mut Words,
     log: &mut [u8],
     at: usize,
     caller: TaskNumber,
     task: i32,
     priority: i32,
 ) -> Reply
-    requires state_len { length state.old ≡ word_count }
     requires caller_value { caller.0 ≡ running (kernel state.old) }
     requires le_caller { 1 ≤ caller.0 }
     requires priority_value { first_refusal (chg_pri_refusals (kernel state.old) task priority) ≡ none }
@@ -99,7 +97,7 @@ pub fn chg_pri(
 {
     let answer = Answer::Code(E_OK);
     let found = chosen_task(state, caller, task);
-    let MaybeTask::Task(t) = found else {
+    let Some(t) = found else {
         return Reply {
             answer: answer,
             next: at,

@@ -4,38 +4,38 @@ ghost use Rattle.std.proofs.Math.Option.{none};
 ghost use Rattle.model.specs.Code.{number};
 ghost use Rattle.model.specs.Refusal.{first_refusal, cre_tsk_refusals, dormant_refusals};
 ghost use Rattle.model.specs.Effect.{cre_tsk, del_tsk};
+ghost use Rattle.model.specs.Errors.{refusal_of};
 ghost use Rattle.model.specs.Words.{word_count, kernel};
 ghost use Rattle.state.specs.Words.{Represents};
-ghost use Rattle.reply.specs.Replies.{verdict, CarriesInWords};
+ghost use Rattle.reply.specs.Replies.{CarriesInWords};
 ghost use Rattle.task.specs.Rows.{task_row};
 
+use state::layout::Words;
 use model::call::Answer;
-use model::code::{E_ID, E_LIMIT, E_NOEXS, E_OBJ, E_OK, E_PAR};
-use model::number::{MaybeTask, TaskNumber, natural};
+use model::code::{E_OK, Error};
+use model::number::{TaskNumber, natural};
 use model::sizes::PRIORITIES;
 use reply::field::{answer_number, outside};
-use reply::{Reply, Verdict};
+use reply::Reply;
 use script::log::log_answer;
 use search::unused::unused_task;
 use state::task;
 
-pub fn refuse_cre_tsk(state: &[u32], priority: i32) -> Verdict
-    requires { length state.now ≡ word_count }
-    ensures { result ≡ verdict (first_refusal (cre_tsk_refusals (kernel state.now) priority)) }
+pub fn refuse_cre_tsk(state: &Words, priority: i32) -> Result<(), Error>
+    ensures { refusal_of result ≡ first_refusal (cre_tsk_refusals (kernel state.now) priority) }
 {
     if outside(1, PRIORITIES as i32, priority) {
-        return Verdict::Refused(E_PAR);
+        return Err(Error::Par);
     }
     let found = unused_task(state);
-    let MaybeTask::Task(_) = found else {
-        return Verdict::Refused(E_LIMIT);
+    let Some(_) = found else {
+        return Err(Error::Limit);
     };
-    Verdict::Allowed
+    Ok(())
 }
 
 // Where a task stands that has no wait, and its priorities, all one number.
-fn set_row(state: &mut [u32], t: TaskNumber, place: u32, p: u32)
-    requires { length state.old ≡ word_count }
+fn set_row(state: &mut Words, t: TaskNumber, place: u32, p: u32)
     ensures { Represents state.new (task_row (kernel state.old) t.0 place p) }
 {
     task::set_place(state, t, place);
@@ -46,18 +46,17 @@ fn set_row(state: &mut [u32], t: TaskNumber, place: u32, p: u32)
 
 // "A new object takes the smallest free number"; there is one, since nothing refuses the call.
 pub fn cre_tsk(
-    state: &mut [u32],
+    state: &mut Words,
     log: &mut [u8],
     at: usize,
     caller: TaskNumber,
     priority: i32,
 ) -> Reply
-    requires state_len { length state.old ≡ word_count }
-    requires priority_value { first_refusal (cre_tsk_refusals (kernel state.old) priority) ≡ none }
+    requires { first_refusal (cre_tsk_refusals (kernel state.old) priority) ≡ none }
     ensures { CarriesInWords caller.0 (λ w. cre_tsk w (number priority)) state.old log.old at state.new log.new result }
 {
     let found = unused_task(state);
-    let MaybeTask::Task(t) = found else {
+    let Some(t) = found else {
         return Reply {
             answer: Answer::Code(E_OK),
             next: at,
@@ -72,33 +71,31 @@ pub fn cre_tsk(
 }
 
 // Of del_tsk and sta_tsk: both want a dormant task.
-pub fn refuse_not_dormant(state: &[u32], task: i32) -> Verdict
-    requires { length state.now ≡ word_count }
-    ensures { result ≡ verdict (first_refusal (dormant_refusals (kernel state.now) task)) }
+pub fn refuse_not_dormant(state: &Words, task: i32) -> Result<(), Error>
+    ensures { refusal_of result ≡ first_refusal (dormant_refusals (kernel state.now) task) }
 {
     let found = TaskNumber::from_field(task);
-    let MaybeTask::Task(t) = found else {
-        return Verdict::Refused(E_ID);
+    let Some(t) = found else {
+        return Err(Error::Id);
     };
     let place = task::place(state, t);
     if place == task::ABSENT {
-        return Verdict::Refused(E_NOEXS);
+        return Err(Error::Noexs);
     }
     if place != task::DORMANT {
-        return Verdict::Refused(E_OBJ);
+        return Err(Error::Obj);
     }
-    Verdict::Allowed
+    Ok(())
 }
 
 // The field names a task, since nothing refuses the call.
-pub fn del_tsk(state: &mut [u32], log: &mut [u8], at: usize, caller: TaskNumber, task: i32) -> Reply
-    requires state_len { length state.old ≡ word_count }
-    requires task_value { first_refusal (dormant_refusals (kernel state.old) task) ≡ none }
+pub fn del_tsk(state: &mut Words, log: &mut [u8], at: usize, caller: TaskNumber, task: i32) -> Reply
+    requires { first_refusal (dormant_refusals (kernel state.old) task) ≡ none }
     ensures { CarriesInWords caller.0 (λ w. del_tsk w (number task)) state.old log.old at state.new log.new result }
 {
     let answer = Answer::Code(E_OK);
     let found = TaskNumber::from_field(task);
-    let MaybeTask::Task(t) = found else {
+    let Some(t) = found else {
         return Reply {
             answer: answer,
             next: at,

@@ -5,27 +5,28 @@ ghost use Rattle.model.specs.Code.{number};
 ghost use Rattle.model.specs.World.{running};
 ghost use Rattle.model.specs.Refusal.{first_refusal, dormant_refusals, ter_tsk_refusals};
 ghost use Rattle.model.specs.Effect.{sta_tsk, ext_tsk, ter_tsk};
+ghost use Rattle.model.specs.Errors.{refusal_of};
 ghost use Rattle.model.specs.Words.{word_count, kernel};
-ghost use Rattle.reply.specs.Replies.{verdict, CarriesInWords, CarriesInLog};
+ghost use Rattle.reply.specs.Replies.{CarriesInWords, CarriesInLog};
 
+use state::layout::Words;
 use act::task::become_dormant;
 use model::call::Answer;
-use model::code::{E_ID, E_NOEXS, E_OBJ, E_OK};
-use model::number::{MaybeTask, TaskNumber};
+use model::code::{E_OK, Error};
+use model::number::TaskNumber;
 use queue::arrival::arrive;
-use reply::{Reply, Verdict};
+use reply::Reply;
 use script::log::log_answer;
 use state::task::{ABSENT, DORMANT, READY, place};
 
 // "the task is started and joins the ready line". The field names a task, since nothing refuses the call; so below.
-pub fn sta_tsk(state: &mut [u32], log: &mut [u8], at: usize, caller: TaskNumber, task: i32) -> Reply
-    requires state_len { length state.old ≡ word_count }
-    requires task_value { first_refusal (dormant_refusals (kernel state.old) task) ≡ none }
+pub fn sta_tsk(state: &mut Words, log: &mut [u8], at: usize, caller: TaskNumber, task: i32) -> Reply
+    requires { first_refusal (dormant_refusals (kernel state.old) task) ≡ none }
     ensures { CarriesInWords caller.0 (λ w. sta_tsk w (number task)) state.old log.old at state.new log.new result }
 {
     let answer = Answer::Code(E_OK);
     let found = TaskNumber::from_field(task);
-    let MaybeTask::Task(t) = found else {
+    let Some(t) = found else {
         return Reply {
             answer: answer,
             next: at,
@@ -39,14 +40,13 @@ pub fn sta_tsk(state: &mut [u32], log: &mut [u8], at: usize, caller: TaskNumber,
 }
 
 pub fn ext_tsk(
-    state: &mut [u32],
+    state: &mut Words,
     outbox: &mut [u8],
     log: &mut [u8],
     at: usize,
     caller: TaskNumber,
 ) -> Reply
-    requires state_len { length state.old ≡ word_count }
-    requires caller_value { caller.0 ≡ running (kernel state.old) }
+    requires { caller.0 ≡ running (kernel state.old) }
     ensures { CarriesInLog caller.0 ext_tsk state.old outbox.old log.old at state.new outbox.new log.new result }
 {
     let answer = Answer::Exits;
@@ -57,40 +57,38 @@ pub fn ext_tsk(
     }
 }
 
-pub fn refuse_ter_tsk(state: &[u32], caller: TaskNumber, task: i32) -> Verdict
-    requires state_len { length state.now ≡ word_count }
-    requires caller_value { caller.0 ≡ running (kernel state.now) }
-    ensures { result ≡ verdict (first_refusal (ter_tsk_refusals (kernel state.now) task)) }
+pub fn refuse_ter_tsk(state: &Words, caller: TaskNumber, task: i32) -> Result<(), Error>
+    requires { caller.0 ≡ running (kernel state.now) }
+    ensures { refusal_of result ≡ first_refusal (ter_tsk_refusals (kernel state.now) task) }
 {
     let found = TaskNumber::from_field(task);
-    let MaybeTask::Task(t) = found else {
-        return Verdict::Refused(E_ID);
+    let Some(t) = found else {
+        return Err(Error::Id);
     };
     let stands = place(state, t);
     if stands == ABSENT {
-        return Verdict::Refused(E_NOEXS);
+        return Err(Error::Noexs);
     }
     if (stands == DORMANT) | (t.word() == caller.word()) {
-        return Verdict::Refused(E_OBJ);
+        return Err(Error::Obj);
     }
-    Verdict::Allowed
+    Ok(())
 }
 
 pub fn ter_tsk(
-    state: &mut [u32],
+    state: &mut Words,
     outbox: &mut [u8],
     log: &mut [u8],
     at: usize,
     caller: TaskNumber,
     task: i32,
 ) -> Reply
-    requires state_len { length state.old ≡ word_count }
-    requires task_value { first_refusal (ter_tsk_refusals (kernel state.old) task) ≡ none }
+    requires { first_refusal (ter_tsk_refusals (kernel state.old) task) ≡ none }
     ensures { CarriesInLog caller.0 (λ w. ter_tsk w (number task)) state.old outbox.old log.old at state.new outbox.new log.new result }
 {
     let answer = Answer::Code(E_OK);
     let found = TaskNumber::from_field(task);
-    let MaybeTask::Task(t) = found else {
+    let Some(t) = found else {
         return Reply {
             answer: answer,
             next: at,

@@ -10,30 +10,29 @@ ghost use Rattle.act.specs.Held.{DoesInLog};
 ghost use Rattle.reply.specs.Replies.{CarriesInLog};
 ghost use Rattle.time.specs.Ticks.{ticks};
 
+use state::layout::Words;
 use act::task::tick_task;
 use model::call::Answer;
 use model::code::E_OK;
-use model::number::{MaybeTask, TaskNumber};
+use model::number::TaskNumber;
 use model::sizes::TASKS;
 use reply::Reply;
 use script::log::log_answer;
 
 // A millisecond passes for the task of a number.
-fn tick_numbered(state: &mut [u32], outbox: &mut [u8], log: &mut [u8], at: usize, n: u32) -> usize
-    requires state_len { length state.old ≡ word_count }
-    requires from { From 1 tasks n }
+fn tick_numbered(state: &mut Words, outbox: &mut [u8], log: &mut [u8], at: usize, n: u32) -> usize
+    requires { From 1 tasks n }
     ensures { DoesInLog (λ w. tick_task w n) state.old outbox.old log.old at state.new outbox.new log.new result }
 {
     let found = TaskNumber::from_word(n);
-    let MaybeTask::Task(t) = found else {
+    let Some(t) = found else {
         return at;
     };
     tick_task(state, outbox, log, at, t)
 }
 
 // The same for every task: "several in task order".
-fn tick_all(state: &mut [u32], outbox: &mut [u8], log: &mut [u8], at: usize) -> usize
-    requires { length state.old ≡ word_count }
+fn tick_all(state: &mut Words, outbox: &mut [u8], log: &mut [u8], at: usize) -> usize
     ensures { DoesInLog ticks state.old outbox.old log.old at state.new outbox.new log.new result }
 {
     let mut next = at;
@@ -43,8 +42,7 @@ fn tick_all(state: &mut [u32], outbox: &mut [u8], log: &mut [u8], at: usize) -> 
     next
 }
 
-pub fn tick(state: &mut [u32], outbox: &mut [u8], log: &mut [u8], at: usize) -> Reply
-    requires { length state.old ≡ word_count }
+pub fn tick(state: &mut Words, outbox: &mut [u8], log: &mut [u8], at: usize) -> Reply
     ensures { (caller : ℕ) → CarriesInLog caller ticked state.old outbox.old log.old at state.new outbox.new log.new result }
 {
     let answer = Answer::Code(E_OK);

@@ -8,17 +8,18 @@ ghost use Rattle.model.specs.Words.{word_count, kernel};
 ghost use Rattle.act.specs.Held.{areas, Does};
 ghost use Rattle.transfer.specs.Serving.{FirstSender, served};
 
+use state::layout::Words;
 use super::store::store_message;
 use act::wait::end_wait;
 use message::outbox::outbox_message;
 use model::code::E_OK;
-use model::number::{BufferNumber, MaybeBuffer, MaybeTask, TaskNumber};
+use model::number::{BufferNumber, TaskNumber};
 use model::sizes::{BUFFERS, TASKS};
 use search::sender::{anyone_sends, first_fitting};
 
 // The first sender's message is stored, and its wait ends.
 fn store_first(
-    state: &mut [u32],
+    state: &mut Words,
     store: &mut [u8],
     outbox: &mut [u8],
     log: &mut [u8],
@@ -26,8 +27,7 @@ fn store_first(
     b: BufferNumber,
     t: TaskNumber,
 ) -> usize
-    requires state_len { length state.old ≡ word_count }
-    requires first_sender { FirstSender (kernel state.old) b.0 t.0 }
+    requires { FirstSender (kernel state.old) b.0 t.0 }
     ensures { Does (λ w. store_first w b.0) (areas state.old store.old outbox.old log.old) at (areas state.new store.new outbox.new log.new) result }
 {
     let n = state::task::argument(state, t);
@@ -38,20 +38,19 @@ fn store_first(
 
 // The senders of a buffer, one after the other: no queue has more tasks than there are.
 fn drain_buffer(
-    state: &mut [u32],
+    state: &mut Words,
     store: &mut [u8],
     outbox: &mut [u8],
     log: &mut [u8],
     at: usize,
     b: BufferNumber,
 ) -> usize
-    requires { length state.old ≡ word_count }
     ensures { Does (served b.0) (areas state.old store.old outbox.old log.old) at (areas state.new store.new outbox.new log.new) result }
 {
     let mut next = at;
     for _ in 0..TASKS {
         let found = first_fitting(state, b);
-        let MaybeTask::Task(t) = found else {
+        let Some(t) = found else {
             return next;
         };
         next = store_first(state, store, outbox, log, next, b, t);
@@ -61,19 +60,18 @@ fn drain_buffer(
 
 // The same by the buffer's number. Each number that is asked for names a buffer.
 fn drain_numbered(
-    state: &mut [u32],
+    state: &mut Words,
     store: &mut [u8],
     outbox: &mut [u8],
     log: &mut [u8],
     at: usize,
     n: u32,
 ) -> usize
-    requires state_len { length state.old ≡ word_count }
-    requires from { From 1 buffers n }
+    requires { From 1 buffers n }
     ensures { Does (served n) (areas state.old store.old outbox.old log.old) at (areas state.new store.new outbox.new log.new) result }
 {
     let found = BufferNumber::from_word(n);
-    let MaybeBuffer::Buffer(b) = found else {
+    let Some(b) = found else {
         return at;
     };
     drain_buffer(state, store, outbox, log, at, b)
@@ -81,13 +79,12 @@ fn drain_numbered(
 
 // Every buffer in order; mostly nobody sends, and there is nothing to do.
 pub fn drain(
-    state: &mut [u32],
+    state: &mut Words,
     store: &mut [u8],
     outbox: &mut [u8],
     log: &mut [u8],
     at: usize,
 ) -> usize
-    requires { length state.old ≡ word_count }
     ensures { Does drained (areas state.old store.old outbox.old log.old) at (areas state.new store.new outbox.new log.new) result }
 {
     if !anyone_sends(state) {

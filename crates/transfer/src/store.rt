@@ -5,15 +5,15 @@ ghost use Rattle.model.specs.Effect.{take_oldest};
 ghost use Rattle.model.specs.Words.{word_count, kernel};
 ghost use Rattle.act.specs.Held.{DoesInStore};
 
+use state::layout::Words;
 use message::copy::least;
 use message::room::cost;
 use message::store::{store_append, store_oldest_length, store_remove};
 use model::number::BufferNumber;
 
 // A message is stored. A caller has seen that it fits: else the bytes used need not be a word.
-pub fn store_message(state: &mut [u32], store: &mut [u8], b: BufferNumber, m: &[u8])
-    requires state_len { length state.old ≡ word_count }
-    requires m_value { fits (kernel state.old) b.0 (length m.now) ≡ true }
+pub fn store_message(state: &mut Words, store: &mut [u8], b: BufferNumber, m: &[u8])
+    requires { fits (kernel state.old) b.0 (length m.now) ≡ true }
     ensures { DoesInStore (λ w. store_message w b.0 m.now) state.old store.old state.new store.new }
 {
     let used = state::buffer::used(state, b) as usize;
@@ -24,8 +24,7 @@ pub fn store_message(state: &mut [u32], store: &mut [u8], b: BufferNumber, m: &[
 }
 
 // The oldest message leaves. On a damaged region it may seem to cost more than is used: then nothing is used.
-pub fn take_oldest(state: &mut [u32], store: &mut [u8], b: BufferNumber)
-    requires { length state.old ≡ word_count }
+pub fn take_oldest(state: &mut Words, store: &mut [u8], b: BufferNumber)
     ensures { DoesInStore (λ w. take_oldest w b.0) state.old store.old state.new store.new }
 {
     let used = state::buffer::used(state, b) as usize;

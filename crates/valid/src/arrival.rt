@@ -7,8 +7,9 @@ ghost use Rattle.model.specs.Valid.{arrivals};
 ghost use Rattle.model.specs.Words.{word_count, kernel};
 ghost use Rattle.valid.specs.Parts.{stands_once, has_started, given};
 
+use state::layout::Words;
 use super::range::may_hold;
-use model::number::{MaybeTask, TaskNumber};
+use model::number::TaskNumber;
 use model::sizes::{PLACES, TASKS};
 use state::arrival::task;
 use state::task::READY;
@@ -21,8 +22,7 @@ fn one_if_same(u: u32, v: u32) -> usize
 }
 
 // How often a number stands in the arrival order.
-fn times(state: &[u32], u: u32) -> usize
-    requires { length state.now ≡ word_count }
+fn times(state: &Words, u: u32) -> usize
     ensures { result ≡ occurrences u (kernel state.now).arrivals }
 {
     let mut count: usize = 0;
@@ -33,8 +33,7 @@ fn times(state: &[u32], u: u32) -> usize
 }
 
 // A started task stands there once.
-fn stands_once(state: &[u32], t: TaskNumber) -> bool
-    requires { length state.now ≡ word_count }
+fn stands_once(state: &Words, t: TaskNumber) -> bool
     ensures { result ≡ stands_once (kernel state.now) t.0 }
 {
     let place = state::task::place(state, t);
@@ -43,13 +42,12 @@ fn stands_once(state: &[u32], t: TaskNumber) -> bool
     !started | (n == 1)
 }
 
-fn each_stands_once(state: &[u32]) -> bool
-    requires { length state.now ≡ word_count }
+fn each_stands_once(state: &Words) -> bool
     ensures { result ≡ all (stands_once (kernel state.now)) (up_to tasks) }
 {
     for n in 1..=TASKS {
         let found = TaskNumber::from_word(n);
-        let MaybeTask::Task(t) = found else {
+        let Some(t) = found else {
             return false;
         };
         if !stands_once(state, t) {
@@ -60,8 +58,7 @@ fn each_stands_once(state: &[u32]) -> bool
 }
 
 // Whoever stands there was started; a place may be none's.
-fn all_started(state: &[u32]) -> bool
-    requires { length state.now ≡ word_count }
+fn all_started(state: &Words) -> bool
     ensures { result ≡ all (has_started (kernel state.now)) (kernel state.now).arrivals }
 {
     for i in 0..PLACES {
@@ -73,8 +70,7 @@ fn all_started(state: &[u32]) -> bool
 }
 
 // "unused entries as in the fresh bench": the places that are nobody's stand last.
-fn zeros_last(state: &[u32]) -> bool
-    requires { length state.now ≡ word_count }
+fn zeros_last(state: &Words) -> bool
     ensures { result ≡ same (kernel state.now).arrivals (padded tasks (given (kernel state.now).arrivals)) }
 {
     let mut ended = false;
@@ -89,8 +85,7 @@ fn zeros_last(state: &[u32]) -> bool
 }
 
 // All that is asked of the arrival order.
-pub(crate) fn arrivals(state: &[u32]) -> bool
-    requires { length state.now ≡ word_count }
+pub(crate) fn arrivals(state: &Words) -> bool
     ensures { result ≡ arrivals (kernel state.now) }
 {
     each_stands_once(state) & all_started(state) & zeros_last(state)

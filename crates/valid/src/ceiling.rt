@@ -5,12 +5,12 @@ ghost use Rattle.model.specs.Lists.{all, up_to};
 ghost use Rattle.model.specs.Valid.{ceiling};
 ghost use Rattle.model.specs.Words.{word_count, kernel};
 
+use state::layout::Words;
 use model::number::TaskNumber;
 use search::ceiling::above_any_ceiling;
 
 // The sentence of one task and every mutex.
-pub(crate) fn ceilings_of(state: &[u32], t: TaskNumber) -> bool
-    requires { length state.now ≡ word_count }
+pub(crate) fn ceilings_of(state: &Words, t: TaskNumber) -> bool
     ensures { result ≡ all (ceiling (kernel state.now) t.0) (up_to mutexes) }
 {
     let base = state::task::base(state, t);

@@ -7,39 +7,26 @@ ghost use Rattle.model.specs.Valid.{TaskLists, current_priorities, right_bitmap}
 ghost use Rattle.model.specs.Words.{word_count, kernel};
 ghost use Rattle.valid.specs.Parts.{same_current};
 
-use model::number::{MaybeTask, TaskNumber};
+use state::layout::Words;
+use model::number::TaskNumber;
 use model::sizes::TASKS;
 use priority::work_out;
 use ready::fresh_bits;
 use state::bitmap::bits;
-use state::layout::WORDS;
-
-fn copy(from: &[u32], to: &mut [u32])
-    requires { length from.now ≡ length to.old }
-    ensures { to.new ≡ from.now }
-{
-    for i in 0..to.len() {
-        to[i] = from[i];
-    }
-}
 
 // Whether a task has the same current priority in two states, and whether every task has.
-fn same_current(state: &[u32], other: &[u32], t: TaskNumber) -> bool
-    requires state_len { length state.now ≡ word_count }
-    requires other_len { length other.now ≡ word_count }
+fn same_current(state: &Words, other: &Words, t: TaskNumber) -> bool
     ensures { result ≡ same_current (kernel state.now) (kernel other.now) t.0 }
 {
     state::task::current(state, t) == state::task::current(other, t)
 }
 
-fn same_currents(state: &[u32], other: &[u32]) -> bool
-    requires state_len { length state.now ≡ word_count }
-    requires other_len { length other.now ≡ word_count }
+fn same_currents(state: &Words, other: &Words) -> bool
     ensures { result ≡ all (same_current (kernel state.now) (kernel other.now)) (up_to tasks) }
 {
     for n in 1..=TASKS {
         let found = TaskNumber::from_word(n);
-        let MaybeTask::Task(t) = found else {
+        let Some(t) = found else {
             return false;
         };
         if !same_current(state, other, t) {
@@ -49,19 +36,16 @@ fn same_currents(state: &[u32], other: &[u32]) -> bool
     true
 }
 
-pub(crate) fn priorities(state: &[u32]) -> bool
-    requires state_len { length state.now ≡ word_count }
-    requires task_lists { TaskLists (kernel state.now).tasks }
+pub(crate) fn priorities(state: &Words) -> bool
+    requires { TaskLists (kernel state.now).tasks }
     ensures { result ≡ current_priorities (kernel state.now) }
 {
-    let mut afresh = [0; WORDS];
-    copy(state, &mut afresh);
+    let mut afresh = *state;
     work_out(&mut afresh);
     same_currents(state, &afresh)
 }
 
-pub(crate) fn bitmap(state: &[u32]) -> bool
-    requires { length state.now ≡ word_count }
+pub(crate) fn bitmap(state: &Words) -> bool
     ensures { result ≡ right_bitmap (kernel state.now) }
 {
     bits(state) == fresh_bits(state)

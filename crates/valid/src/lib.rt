@@ -20,6 +20,7 @@ ghost use Rattle.model.specs.Words.{word_count, kernel};
 ghost use Rattle.model.specs.Lent.{lent, is_valid};
 ghost use Rattle.valid.specs.Check.{right_lengths, none_zero, clauses};
 
+use state::layout::Words;
 use areas::layout::regions_laid_out;
 use areas::outbox::outbox_laid_out;
 use model::sizes::{OUTBOX_BYTES, STORE_BYTES};
@@ -34,8 +35,7 @@ pub fn right_lengths(state: &[u32], store: &[u8], outbox: &[u8]) -> bool
 }
 
 // Entry 0 of every list is zero, so a number that names nothing can be followed.
-fn none_zero(state: &[u32]) -> bool
-    requires { length state.now ≡ word_count }
+fn none_zero(state: &Words) -> bool
     ensures { result ≡ none_zero (kernel state.now) }
 {
     none::tasks_zero(state)
@@ -45,8 +45,7 @@ fn none_zero(state: &[u32]) -> bool
 }
 
 // All other clauses.
-fn clauses_hold(state: &[u32], store: &[u8], outbox: &[u8]) -> bool
-    requires state_len { length state.now ≡ word_count }
+fn clauses_hold(state: &Words, store: &[u8], outbox: &[u8]) -> bool
     requires task_lists { TaskLists (kernel state.now).tasks }
     requires mutex_lists { MutexLists (kernel state.now).mutexes }
     requires buffer_lists { BufferLists (kernel state.now).buffers }
@@ -73,8 +72,11 @@ pub fn is_valid(state: &[u32], store: &[u8], outbox: &[u8]) -> bool
     if !right_lengths(state, store, outbox) {
         return false;
     }
-    if !none_zero(state) {
+    let Some(words) = state.as_array() else {
+        return false;
+    };
+    if !none_zero(words) {
         return false;
     }
-    clauses_hold(state, store, outbox)
+    clauses_hold(words, store, outbox)
 }

@@ -5,22 +5,22 @@ ghost use Rattle.message.specs.NextMessage.{located};
 ghost use Rattle.model.specs.Words.{word_count, kernel};
 ghost use Rattle.valid.specs.Shown.{shown_location, shown_message};
 
+use state::layout::Words;
 use super::is_valid;
 use message::next::Location;
-use model::number::{BufferNumber, MaybeBuffer, MaybeTask};
+use model::number::BufferNumber;
 use queue::front::front;
 use state::task::SENDING;
 
 // "the oldest stored message, else the first sender's".
-pub fn located(state: &[u32], b: BufferNumber) -> Location
-    requires { length state.now ≡ word_count }
+pub fn located(state: &Words, b: BufferNumber) -> Location
     ensures { result ≡ located (kernel state.now) b.0 }
 {
     if state::buffer::used(state, b) != 0 {
         return Location::Stored(b);
     }
     let found = front(state, SENDING, b.word());
-    let MaybeTask::Task(t) = found else {
+    let Some(t) = found else {
         return Location::Nowhere;
     };
     Location::Sent(t, state::task::argument(state, t))
@@ -33,14 +33,17 @@ pub fn location(state: &[u32], store: &[u8], outbox: &[u8], n: i32) -> Location
     if !is_valid(state, store, outbox) {
         return Location::Nowhere;
     }
-    let found = BufferNumber::from_field(n);
-    let MaybeBuffer::Buffer(b) = found else {
+    let Some(words) = state.as_array() else {
         return Location::Nowhere;
     };
-    if state::buffer::exists(state, b) == 0 {
+    let found = BufferNumber::from_field(n);
+    let Some(b) = found else {
+        return Location::Nowhere;
+    };
+    if state::buffer::exists(words, b) == 0 {
         return Location::Nowhere;
     }
-    located(state, b)
+    located(words, b)
 }
 
 // The next message: a part of the store or of the outbox, whichever holds it; an empty part where there is none.

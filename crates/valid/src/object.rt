@@ -7,16 +7,16 @@ ghost use Rattle.model.specs.Flags.{passes};
 ghost use Rattle.model.specs.Words.{word_count, kernel};
 ghost use Rattle.valid.specs.Check.{task_tests, buffer_tests};
 
+use state::layout::Words;
 use super::ceiling::ceilings_of;
 use super::range::{buffer_range, task_range};
 use super::wait::{argument, locking_task, wait_fields};
 use super::waiter::{first_sender, getting_task, receiving_task};
-use model::number::{BufferNumber, MaybeBuffer, MaybeTask, TaskNumber};
+use model::number::{BufferNumber, TaskNumber};
 use model::sizes::{BUFFERS, TASKS};
 
 // All clauses that are about one task.
-fn task_valid(state: &[u32], t: TaskNumber) -> bool
-    requires state_len { length state.now ≡ word_count }
+fn task_valid(state: &Words, t: TaskNumber) -> bool
     requires mutex_lists { MutexLists (kernel state.now).mutexes }
     requires buffer_lists { BufferLists (kernel state.now).buffers }
     requires pool_lists { PoolLists (kernel state.now).pools }
@@ -32,16 +32,14 @@ fn task_valid(state: &[u32], t: TaskNumber) -> bool
 }
 
 // All clauses that are about one buffer's entries.
-fn buffer_valid(state: &[u32], b: BufferNumber) -> bool
-    requires { length state.now ≡ word_count }
+fn buffer_valid(state: &Words, b: BufferNumber) -> bool
     ensures { result ≡ passes (buffer_tests (kernel state.now)) b.0 }
 {
     buffer_range(state, b) & first_sender(state, b)
 }
 
 // The same of every task and every buffer. Each number of a loop names an object, so no answer is given for want of one.
-pub(crate) fn tasks_valid(state: &[u32]) -> bool
-    requires state_len { length state.now ≡ word_count }
+pub(crate) fn tasks_valid(state: &Words) -> bool
     requires mutex_lists { MutexLists (kernel state.now).mutexes }
     requires buffer_lists { BufferLists (kernel state.now).buffers }
     requires pool_lists { PoolLists (kernel state.now).pools }
@@ -49,7 +47,7 @@ pub(crate) fn tasks_valid(state: &[u32]) -> bool
 {
     for n in 1..=TASKS {
         let found = TaskNumber::from_word(n);
-        let MaybeTask::Task(t) = found else {
+        let Some(t) = found else {
             return false;
         };
         if !task_valid(state, t) {
@@ -59,13 +57,12 @@ pub(crate) fn tasks_valid(state: &[u32]) -> bool
     true
 }
 
-pub(crate) fn buffers_valid(state: &[u32]) -> bool
-    requires { length state.now ≡ word_count }
+pub(crate) fn buffers_valid(state: &Words) -> bool
     ensures { result ≡ all (passes (buffer_tests (kernel state.now))) (up_to buffers) }
 {
     for n in 1..=BUFFERS {
         let found = BufferNumber::from_word(n);
-        let MaybeBuffer::Buffer(b) = found else {
+        let Some(b) = found else {
             return false;
         };
         if !buffer_valid(state, b) {

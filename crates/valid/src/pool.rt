@@ -7,15 +7,15 @@ ghost use Rattle.model.specs.Valid.{block_flag, PoolLists};
 ghost use Rattle.model.specs.Words.{word_count, kernel};
 ghost use Rattle.valid.specs.Check.{block_flags};
 
+use state::layout::Words;
 use super::range::within;
-use model::number::{MaybePool, PoolNumber};
+use model::number::PoolNumber;
 use model::sizes::{BLOCKS, POOLS};
 use search::room::pools_exceed;
 use state::none::flags_zero;
 
 // "unused entries as in the fresh bench": a flag is 0, or 1 and its block one of the pool's. Block 0 stands for none and is asked too.
-fn block_flag(state: &[u32], p: PoolNumber, b: u32) -> bool
-    requires { length state.now ≡ word_count }
+fn block_flag(state: &Words, p: PoolNumber, b: u32) -> bool
     ensures { result ≡ block_flag (kernel state.now) p.0 b }
 {
     let flag = state::pool::taken(state, p, b);
@@ -24,8 +24,7 @@ fn block_flag(state: &[u32], p: PoolNumber, b: u32) -> bool
 }
 
 // Of every block of a pool, and of every pool. Each number of the loop over pools names one, so no answer is given for want of one.
-fn flags_of(state: &[u32], p: PoolNumber) -> bool
-    requires { length state.now ≡ word_count }
+fn flags_of(state: &Words, p: PoolNumber) -> bool
     ensures { result ≡ all (block_flag (kernel state.now) p.0) (count_from 0 (suc blocks)) }
 {
     for b in 0..=BLOCKS {
@@ -36,13 +35,12 @@ fn flags_of(state: &[u32], p: PoolNumber) -> bool
     true
 }
 
-fn flags_of_pools(state: &[u32]) -> bool
-    requires { length state.now ≡ word_count }
+fn flags_of_pools(state: &Words) -> bool
     ensures { result ≡ all (λ p. all (block_flag (kernel state.now) p) (count_from 0 (suc blocks))) (up_to pools) }
 {
     for n in 1..=POOLS {
         let found = PoolNumber::from_word(n);
-        let MaybePool::Pool(p) = found else {
+        let Some(p) = found else {
             return false;
         };
         if !flags_of(state, p) {
@@ -53,17 +51,15 @@ fn flags_of_pools(state: &[u32]) -> bool
 }
 
 // Of none's flags, those of pool 0, and of all others.
-pub(crate) fn flags(state: &[u32]) -> bool
-    requires state_len { length state.now ≡ word_count }
-    requires pool_lists { PoolLists (kernel state.now).pools }
+pub(crate) fn flags(state: &Words) -> bool
+    requires { PoolLists (kernel state.now).pools }
     ensures { result ≡ block_flags (kernel state.now) }
 {
     flags_zero(state) & flags_of_pools(state)
 }
 
 // "numbers in range": the live pools' bytes are no more than all pools may have.
-pub(crate) fn pools_fit(state: &[u32]) -> bool
-    requires { length state.now ≡ word_count }
+pub(crate) fn pools_fit(state: &Words) -> bool
     ensures { result ≡ leb (pool_sum (kernel state.now)) pool_bytes }
 {
     !pools_exceed(state, 0)

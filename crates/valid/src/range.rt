@@ -7,11 +7,10 @@ ghost use Rattle.model.specs.Facts.{ready};
 ghost use Rattle.model.specs.Valid.{task_range, mutex_range, buffer_range, pool_range};
 ghost use Rattle.model.specs.Words.{word_count, kernel};
 
+use state::layout::Words;
 use model::attribute;
 use model::attribute::CEILINGED;
-use model::number::{
-    BufferNumber, MaybeMutex, MaybePool, MaybeTask, MutexNumber, PoolNumber, TaskNumber,
-};
+use model::number::{BufferNumber, MutexNumber, PoolNumber, TaskNumber};
 use model::sizes::{BLOCK_BYTES, BLOCKS, MESSAGE_BYTES, MUTEXES, POOLS, PRIORITIES, REGION_BYTES};
 use state::task::{ABSENT, DORMANT, GETTING, READY};
 
@@ -28,8 +27,7 @@ pub(crate) fn within(low: u32, high: u32, n: u32) -> bool
 }
 
 // "numbers in range" of a task: its place and its priorities. An absent task's are 0.
-pub(crate) fn task_range(state: &[u32], t: TaskNumber) -> bool
-    requires { length state.now ≡ word_count }
+pub(crate) fn task_range(state: &Words, t: TaskNumber) -> bool
     ensures { result ≡ task_range (kernel state.now) t.0 }
 {
     let place = state::task::place(state, t);
@@ -43,15 +41,14 @@ pub(crate) fn task_range(state: &[u32], t: TaskNumber) -> bool
 }
 
 // "dormant ones hold no mutex": a holder is none, or a task that was started.
-pub(crate) fn may_hold(state: &[u32], n: u32) -> bool
-    requires { length state.now ≡ word_count }
+pub(crate) fn may_hold(state: &Words, n: u32) -> bool
     ensures { result ≡ eqb n 0 || leb ready ((kernel state.now).tasks.place ! n) }
 {
     if n == 0 {
         return true;
     }
     let found = TaskNumber::from_word(n);
-    let MaybeTask::Task(t) = found else {
+    let Some(t) = found else {
         return false;
     };
     let place = state::task::place(state, t);
@@ -59,8 +56,7 @@ pub(crate) fn may_hold(state: &[u32], n: u32) -> bool
 }
 
 // "numbers in range" of a mutex: only attribute 3 has a ceiling.
-fn mutex_range(state: &[u32], m: MutexNumber) -> bool
-    requires { length state.now ≡ word_count }
+fn mutex_range(state: &Words, m: MutexNumber) -> bool
     ensures { result ≡ mutex_range (kernel state.now) m.0 }
 {
     let exists = state::mutex::exists(state, m);
@@ -78,8 +74,7 @@ fn mutex_range(state: &[u32], m: MutexNumber) -> bool
 }
 
 // "numbers in range" of a message buffer.
-pub(crate) fn buffer_range(state: &[u32], b: BufferNumber) -> bool
-    requires { length state.now ≡ word_count }
+pub(crate) fn buffer_range(state: &Words, b: BufferNumber) -> bool
     ensures { result ≡ buffer_range (kernel state.now) b.0 }
 {
     let exists = state::buffer::exists(state, b);
@@ -97,8 +92,7 @@ pub(crate) fn buffer_range(state: &[u32], b: BufferNumber) -> bool
 }
 
 // "numbers in range" of a fixed pool.
-fn pool_range(state: &[u32], p: PoolNumber) -> bool
-    requires { length state.now ≡ word_count }
+fn pool_range(state: &Words, p: PoolNumber) -> bool
     ensures { result ≡ pool_range (kernel state.now) p.0 }
 {
     let exists = state::pool::exists(state, p);
@@ -114,13 +108,12 @@ fn pool_range(state: &[u32], p: PoolNumber) -> bool
 }
 
 // The same of every mutex and every pool. Each number of a loop names an object, so no answer is given for want of one.
-pub(crate) fn mutexes_in_range(state: &[u32]) -> bool
-    requires { length state.now ≡ word_count }
+pub(crate) fn mutexes_in_range(state: &Words) -> bool
     ensures { result ≡ all (mutex_range (kernel state.now)) (up_to mutexes) }
 {
     for n in 1..=MUTEXES {
         let found = MutexNumber::from_word(n);
-        let MaybeMutex::Mutex(m) = found else {
+        let Some(m) = found else {
             return false;
         };
         if !mutex_range(state, m) {
@@ -130,13 +123,12 @@ pub(crate) fn mutexes_in_range(state: &[u32]) -> bool
     true
 }
 
-pub(crate) fn pools_in_range(state: &[u32]) -> bool
-    requires { length state.now ≡ word_count }
+pub(crate) fn pools_in_range(state: &Words) -> bool
     ensures { result ≡ all (pool_range (kernel state.now)) (up_to pools) }
 {
     for n in 1..=POOLS {
         let found = PoolNumber::from_word(n);
-        let MaybePool::Pool(p) = found else {
+        let Some(p) = found else {
             return false;
         };
         if !pool_range(state, p) {

@@ -5,6 +5,7 @@ ghost use Rattle.model.specs.Lists.{◌!◌};
 ghost use Rattle.model.specs.Valid.{MutexLists, BufferLists, PoolLists, awaitable, argument, wait_fields, locking_task};
 ghost use Rattle.model.specs.Words.{word_count, kernel};
 
+use state::layout::Words;
 use super::entry;
 use super::range::within;
 use model::number::TaskNumber;
@@ -13,9 +14,8 @@ use state::task::{GETTING, LOCKING, SENDING};
 
 // "unused entries as in the fresh bench": a sender's wait has the length of its message, 1 to the buffer's maxmsz, and no other wait has
 // an argument.
-pub(crate) fn argument(state: &[u32], t: TaskNumber) -> bool
-    requires state_len { length state.now ≡ word_count }
-    requires buffer_lists { BufferLists (kernel state.now).buffers }
+pub(crate) fn argument(state: &Words, t: TaskNumber) -> bool
+    requires { BufferLists (kernel state.now).buffers }
     ensures { result ≡ argument (kernel state.now) t.0 }
 {
     let place = state::task::place(state, t);
@@ -28,8 +28,7 @@ pub(crate) fn argument(state: &[u32], t: TaskNumber) -> bool
 }
 
 // The entry that is 1 if the object that a task at this place waits for exists.
-fn awaited(state: &[u32], place: u32, object: u32) -> u32
-    requires state_len { length state.now ≡ word_count }
+fn awaited(state: &Words, place: u32, object: u32) -> u32
     requires mutex_lists { MutexLists (kernel state.now).mutexes }
     requires buffer_lists { BufferLists (kernel state.now).buffers }
     requires pool_lists { PoolLists (kernel state.now).pools }
@@ -45,8 +44,7 @@ fn awaited(state: &[u32], place: u32, object: u32) -> u32
 }
 
 // "waits with 1 or more ms left or endless", each for an object that exists; without a wait its fields are 0.
-pub(crate) fn wait_fields(state: &[u32], t: TaskNumber) -> bool
-    requires state_len { length state.now ≡ word_count }
+pub(crate) fn wait_fields(state: &Words, t: TaskNumber) -> bool
     requires mutex_lists { MutexLists (kernel state.now).mutexes }
     requires buffer_lists { BufferLists (kernel state.now).buffers }
     requires pool_lists { PoolLists (kernel state.now).pools }
@@ -63,9 +61,8 @@ pub(crate) fn wait_fields(state: &[u32], t: TaskNumber) -> bool
 }
 
 // "no task waiting for a mutex it holds"; "no waiters at a free mutex".
-pub(crate) fn locking_task(state: &[u32], t: TaskNumber) -> bool
-    requires state_len { length state.now ≡ word_count }
-    requires mutex_lists { MutexLists (kernel state.now).mutexes }
+pub(crate) fn locking_task(state: &Words, t: TaskNumber) -> bool
+    requires { MutexLists (kernel state.now).mutexes }
     ensures { result ≡ locking_task (kernel state.now) t.0 }
 {
     let place = state::task::place(state, t);

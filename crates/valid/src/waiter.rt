@@ -8,30 +8,29 @@ ghost use Rattle.model.specs.Valid.{BufferLists, PoolLists, getting_task, receiv
 ghost use Rattle.model.specs.Words.{word_count, kernel};
 ghost use Rattle.valid.specs.Parts.{no_sender};
 
+use state::layout::Words;
 use super::entry;
-use model::number::{BufferNumber, MaybePool, MaybeTask, PoolNumber, TaskNumber};
+use model::number::{BufferNumber, PoolNumber, TaskNumber};
 use model::sizes::TASKS;
 use search::block::free_block;
 use search::sender::first_fitting;
 use state::task::{GETTING, RECEIVING, SENDING};
 
 // Whether a pool has no free block, by a word; where no pool is named, no block is free.
-fn none_free(state: &[u32], n: u32) -> bool
-    requires state_len { length state.now ≡ word_count }
-    requires pool_lists { PoolLists (kernel state.now).pools }
+fn none_free(state: &Words, n: u32) -> bool
+    requires { PoolLists (kernel state.now).pools }
     ensures { result ≡ eqb (free_block (kernel state.now) n) 0 }
 {
     let found = PoolNumber::from_word(n);
-    let MaybePool::Pool(p) = found else {
+    let Some(p) = found else {
         return true;
     };
     free_block(state, p) == 0
 }
 
 // "no waiters at [..] a pool with free blocks".
-pub(crate) fn getting_task(state: &[u32], t: TaskNumber) -> bool
-    requires state_len { length state.now ≡ word_count }
-    requires pool_lists { PoolLists (kernel state.now).pools }
+pub(crate) fn getting_task(state: &Words, t: TaskNumber) -> bool
+    requires { PoolLists (kernel state.now).pools }
     ensures { result ≡ getting_task (kernel state.now) t.0 }
 {
     let place = state::task::place(state, t);
@@ -40,8 +39,7 @@ pub(crate) fn getting_task(state: &[u32], t: TaskNumber) -> bool
 }
 
 // Whether a task is no sender at a buffer.
-fn no_sender(state: &[u32], b: u32, s: TaskNumber) -> bool
-    requires { length state.now ≡ word_count }
+fn no_sender(state: &Words, b: u32, s: TaskNumber) -> bool
     ensures { result ≡ no_sender (kernel state.now) b s.0 }
 {
     let place = state::task::place(state, s);
@@ -49,13 +47,12 @@ fn no_sender(state: &[u32], b: u32, s: TaskNumber) -> bool
     (place != SENDING) | (object != b)
 }
 
-fn no_senders(state: &[u32], b: u32) -> bool
-    requires { length state.now ≡ word_count }
+fn no_senders(state: &Words, b: u32) -> bool
     ensures { result ≡ all (no_sender (kernel state.now) b) (up_to tasks) }
 {
     for n in 1..=TASKS {
         let found = TaskNumber::from_word(n);
-        let MaybeTask::Task(s) = found else {
+        let Some(s) = found else {
             return false;
         };
         if !no_sender(state, b, s) {
@@ -66,9 +63,8 @@ fn no_senders(state: &[u32], b: u32) -> bool
 }
 
 // "no receivers beside messages or senders".
-pub(crate) fn receiving_task(state: &[u32], t: TaskNumber) -> bool
-    requires state_len { length state.now ≡ word_count }
-    requires buffer_lists { BufferLists (kernel state.now).buffers }
+pub(crate) fn receiving_task(state: &Words, t: TaskNumber) -> bool
+    requires { BufferLists (kernel state.now).buffers }
     ensures { result ≡ receiving_task (kernel state.now) t.0 }
 {
     let place = state::task::place(state, t);
@@ -78,12 +74,11 @@ pub(crate) fn receiving_task(state: &[u32], t: TaskNumber) -> bool
 }
 
 // "no first sender that fits".
-pub(crate) fn first_sender(state: &[u32], b: BufferNumber) -> bool
-    requires { length state.now ≡ word_count }
+pub(crate) fn first_sender(state: &Words, b: BufferNumber) -> bool
     ensures { result ≡ first_sender (kernel state.now) b.0 }
 {
     match first_fitting(state, b) {
-        MaybeTask::Task(_) => false,
-        MaybeTask::Nothing => true,
+        Some(_) => false,
+        None => true,
     }
 }

@@ -7,24 +7,23 @@ use mathlib.Core.Bool.{cond}
 use lib.Dec.{eqb}
 use borrow.Author.Rules.{rules}
 use borrow.Author.Tests.{ne_eqb}
-use Rattle.model.specs.declared.kind.BodyLength.{BodyLength}
-use Rattle.model.specs.declared.kind.BodyLength.TheVariants.{Bytes, Unknown}
+use Rattle.std.specs.Prelude.{Option, Some, None}
 use Rattle.model.specs.Record.{kinds, row_of, body_length, body_entry}
 use Rattle.model.proofs.Table.{agree, agree-from-0}
 use Rattle.model.proofs.kind.body_length.Goals as goal
 
-case_of : ℕ → BodyLength
-case_of n = cond (eqb n 255) Unknown (Bytes n)
+case_of : ℕ → Option ℕ
+case_of n = cond (eqb n 255) None (Some n)
 
 within : (k : ℕ) → k < 256 → body_length k ≡ case_of (body_entry (body_length k))
 unfolding kinds row_of body_length case_of
 within k h = agree-from-0 body_length (λ (i : ℕ). case_of (body_entry (body_length i))) 256 k refl h
 
-beyond : (k : ℕ) → 65 ≤ k → k < 256 → body_length k ≡ Unknown
+beyond : (k : ℕ) → 65 ≤ k → k < 256 → body_length k ≡ None
 unfolding kinds row_of body_length
 beyond k low high =
     let e : 65 + (k - 65) ≡ k = omega arith in
-    rw e at (agree body_length (λ (i : ℕ). Unknown) 65 191 (k - 65) refl (omega arith))
+    rw e at (agree body_length (λ (i : ℕ). None) 65 191 (k - 65) refl (omega arith))
 
 pub returns-then-kind-ge-KINDS : goal.returns-then-kind-ge-KINDS
 returns-then-kind-ge-KINDS c = sym (beyond _ c.if-kind-ge-KINDS.true (search rules))

@@ -33,5 +33,5 @@ pub returns : goal.returns
 unfolding kernel sizes fields from_fields
 returns c =
     let w = c.args.state.now in
-    let long = size_of (kernel w) (sized w c.requires) in
+    let long = size_of (kernel w) (sized w c.told-state) in
     rw (c.zero-5.ensures ∙ entry_zero w field.used, c.zero-4.ensures ∙ entry_zero w field.maxmsz, c.zero-3.ensures ∙ entry_zero w field.bufsz, c.zero-2.ensures ∙ entry_zero w field.buffer_attribute, c.zero.ensures ∙ entry_zero w field.buffer_exists) (told buffers (buffer_lists (kernel w)) (long field.buffer_exists, (long field.buffer_attribute, (long field.bufsz, (long field.maxmsz, (long field.used, tt))))))

@@ -29,5 +29,5 @@ pub returns : goal.returns
 unfolding kernel sizes fields from_fields
 returns c =
     let w = c.args.state.now in
-    let long = size_of (kernel w) (sized w c.requires) in
+    let long = size_of (kernel w) (sized w c.told-state) in
     rw (c.zero-4.ensures ∙ entry_zero w field.holder, c.zero-3.ensures ∙ entry_zero w field.ceiling, c.zero-2.ensures ∙ entry_zero w field.mutex_attribute, c.zero.ensures ∙ entry_zero w field.mutex_exists) (told mutexes (mutex_lists (kernel w)) (long field.mutex_exists, (long field.mutex_attribute, (long field.ceiling, (long field.holder, tt)))))

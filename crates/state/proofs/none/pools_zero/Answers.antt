@@ -29,5 +29,5 @@ pub returns : goal.returns
 unfolding kernel sizes fields from_fields
 returns c =
     let w = c.args.state.now in
-    let long = size_of (kernel w) (sized w c.requires) in
+    let long = size_of (kernel w) (sized w c.told-state) in
     rw (c.zero-4.ensures ∙ entry_zero w field.size, c.zero-3.ensures ∙ entry_zero w field.count, c.zero-2.ensures ∙ entry_zero w field.pool_attribute, c.zero.ensures ∙ entry_zero w field.pool_exists) (told pools (pool_lists (kernel w)) (long field.pool_exists, (long field.pool_attribute, (long field.count, (long field.size, tt)))))

@@ -41,5 +41,5 @@ pub returns : goal.returns
 unfolding kernel sizes fields from_fields
 returns c =
     let w = c.args.state.now in
-    let long = size_of (kernel w) (sized w c.requires) in
+    let long = size_of (kernel w) (sized w c.told-state) in
     rw (c.zero-7.ensures ∙ entry_zero w field.left, c.zero-6.ensures ∙ entry_zero w field.current, c.zero-5.ensures ∙ entry_zero w field.base, c.zero-4.ensures ∙ entry_zero w field.initial, c.zero-3.ensures ∙ entry_zero w field.argument, c.zero-2.ensures ∙ entry_zero w field.object, c.zero.ensures ∙ entry_zero w field.place) (told tasks (task_lists (kernel w)) (long field.place, (long field.object, (long field.argument, (long field.initial, (long field.base, (long field.current, (long field.left, tt))))))))

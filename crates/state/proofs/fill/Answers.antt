@@ -1,0 +1,8 @@
+-- `fill` meets its contract: six stores in zeros make the words of the fresh kernel, which antt computes. Assumes nothing.
+use Rattle.model.specs.Kernel.{fresh}
+use Rattle.model.specs.Words.{sizes, words, fields}
+use Rattle.state.proofs.fill.Goals as goal
+
+pub returns : goal.returns
+unfolding sizes words fields fresh
+returns c = rw (c.put-6.ensures, c.put-5.ensures, c.put-4.ensures, c.put-3.ensures, c.put-2.ensures, c.put.ensures)
