@@ -13,11 +13,11 @@ ghost use Rattle.model.specs.Words.{word_count, kernel};
 ghost use Rattle.state.specs.Words.{Represents};
 ghost use Rattle.ready.specs.Tasks.{ready_task, is_ready_at, with_task};
 
-use state::layout::Words;
 use bit::with_priority;
 use model::number::TaskNumber;
 use model::sizes::TASKS;
 use state::bitmap::{bits, set_bits};
+use state::layout::Words;
 use state::task;
 use state::task::READY;
 

@@ -5,11 +5,11 @@ ghost use Rattle.model.specs.Lists.{any, up_to};
 ghost use Rattle.model.specs.Refusal.{above_ceiling};
 ghost use Rattle.model.specs.Words.{word_count, kernel};
 
-use state::layout::Words;
 use model::attribute::CEILINGED;
 use model::number::{MutexNumber, TaskNumber};
 use model::sizes::MUTEXES;
 use queue::front::stands_in;
+use state::layout::Words;
 use state::task::LOCKING;
 
 // The sentence of one mutex; above is more urgent, a lesser number.

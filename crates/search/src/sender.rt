@@ -8,11 +8,11 @@ ghost use Rattle.model.specs.World.{queue_front};
 ghost use Rattle.model.specs.Act.{first_fits};
 ghost use Rattle.model.specs.Words.{word_count, kernel};
 
-use state::layout::Words;
 use message::room::room;
 use model::number::{BufferNumber, TaskNumber};
 use model::sizes::TASKS;
 use queue::front::front;
+use state::layout::Words;
 use state::task::SENDING;
 
 fn sends(state: &Words, t: TaskNumber) -> bool

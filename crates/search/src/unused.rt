@@ -6,9 +6,9 @@ ghost use Rattle.model.specs.Number.{maybe_task, maybe_mutex, maybe_buffer, mayb
 ghost use Rattle.model.specs.Act.{unused};
 ghost use Rattle.model.specs.Words.{word_count, kernel};
 
-use state::layout::Words;
 use model::number::{BufferNumber, MutexNumber, PoolNumber, TaskNumber};
 use model::sizes::{BUFFERS, MUTEXES, POOLS, TASKS};
+use state::layout::Words;
 
 pub fn unused_task(state: &Words) -> Option<TaskNumber>
     ensures { result ≡ maybe_task (unused (kernel state.now).tasks.place tasks) }

@@ -7,11 +7,11 @@ ghost use Rattle.model.specs.Valid.{arrivals};
 ghost use Rattle.model.specs.Words.{word_count, kernel};
 ghost use Rattle.valid.specs.Parts.{stands_once, has_started, given};
 
-use state::layout::Words;
 use super::range::may_hold;
 use model::number::TaskNumber;
 use model::sizes::{PLACES, TASKS};
 use state::arrival::task;
+use state::layout::Words;
 use state::task::READY;
 
 // 1 for two numbers that are the same, else 0.

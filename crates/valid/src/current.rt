@@ -7,12 +7,12 @@ ghost use Rattle.model.specs.Valid.{TaskLists, current_priorities, right_bitmap}
 ghost use Rattle.model.specs.Words.{word_count, kernel};
 ghost use Rattle.valid.specs.Parts.{same_current};
 
-use state::layout::Words;
 use model::number::TaskNumber;
 use model::sizes::TASKS;
 use priority::work_out;
 use ready::fresh_bits;
 use state::bitmap::bits;
+use state::layout::Words;
 
 // Whether a task has the same current priority in two states, and whether every task has.
 fn same_current(state: &Words, other: &Words, t: TaskNumber) -> bool

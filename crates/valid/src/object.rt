@@ -7,13 +7,13 @@ ghost use Rattle.model.specs.Flags.{passes};
 ghost use Rattle.model.specs.Words.{word_count, kernel};
 ghost use Rattle.valid.specs.Check.{task_tests, buffer_tests};
 
-use state::layout::Words;
 use super::ceiling::ceilings_of;
 use super::range::{buffer_range, task_range};
 use super::wait::{argument, locking_task, wait_fields};
 use super::waiter::{first_sender, getting_task, receiving_task};
 use model::number::{BufferNumber, TaskNumber};
 use model::sizes::{BUFFERS, TASKS};
+use state::layout::Words;
 
 // All clauses that are about one task.
 fn task_valid(state: &Words, t: TaskNumber) -> bool

@@ -7,11 +7,11 @@ ghost use Rattle.model.specs.Valid.{block_flag, PoolLists};
 ghost use Rattle.model.specs.Words.{word_count, kernel};
 ghost use Rattle.valid.specs.Check.{block_flags};
 
-use state::layout::Words;
 use super::range::within;
 use model::number::PoolNumber;
 use model::sizes::{BLOCKS, POOLS};
 use search::room::pools_exceed;
+use state::layout::Words;
 use state::none::flags_zero;
 
 // "unused entries as in the fresh bench": a flag is 0, or 1 and its block one of the pool's. Block 0 stands for none and is asked too.

@@ -7,11 +7,11 @@ ghost use Rattle.model.specs.Facts.{ready};
 ghost use Rattle.model.specs.Valid.{task_range, mutex_range, buffer_range, pool_range};
 ghost use Rattle.model.specs.Words.{word_count, kernel};
 
-use state::layout::Words;
 use model::attribute;
 use model::attribute::CEILINGED;
 use model::number::{BufferNumber, MutexNumber, PoolNumber, TaskNumber};
 use model::sizes::{BLOCK_BYTES, BLOCKS, MESSAGE_BYTES, MUTEXES, POOLS, PRIORITIES, REGION_BYTES};
+use state::layout::Words;
 use state::task::{ABSENT, DORMANT, GETTING, READY};
 
 // The largest bufsz and maxmsz, as words of the state.

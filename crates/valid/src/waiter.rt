@@ -8,12 +8,12 @@ ghost use Rattle.model.specs.Valid.{BufferLists, PoolLists, getting_task, receiv
 ghost use Rattle.model.specs.Words.{word_count, kernel};
 ghost use Rattle.valid.specs.Parts.{no_sender};
 
-use state::layout::Words;
 use super::entry;
 use model::number::{BufferNumber, PoolNumber, TaskNumber};
 use model::sizes::TASKS;
 use search::block::free_block;
 use search::sender::first_fitting;
+use state::layout::Words;
 use state::task::{GETTING, RECEIVING, SENDING};
 
 // Whether a pool has no free block, by a word; where no pool is named, no block is free.

@@ -1,4 +1,5 @@
 -- `work_out` meets its contract. The loop's invariant: the tasks passed have passed their current priorities on. Assumes nothing.
+use Rattle.state.proofs.WordLaws.{long}
 use mathlib.Core.Path.{◌≡◌, ◌∙◌, ap}
 use native.Mathlib.Omega.{arith}
 use Rattle.model.specs.Sizes.{tasks}
@@ -22,4 +23,4 @@ pub returns : goal.returns
 returns c =
     let e : c.loop-n.n ≡ tasks = omega arith in
     onto c.loop-n.invariant.0
-    (ap (passed_so_far _) e ∙ ap (λ (k : Kernel). passed_so_far k tasks) c.start_from_own.ensures.kernel ∙ passed-done _ (place-length _ c.requires))
+    (ap (passed_so_far _) e ∙ ap (λ (k : Kernel). passed_so_far k tasks) c.start_from_own.ensures.kernel ∙ passed-done _ (place-length _ (long _ c.told-state)))

@@ -7,9 +7,6 @@ use Rattle.valid.proofs.is_valid.Goals as goal
 pub returns-then-not-right_lengths : goal.returns-then-not-right_lengths
 returns-then-not-right_lengths c = search wrong-lengths
 
-pub none_zero-requires : goal.none_zero-requires
-none_zero-requires c = search right-words
-
 pub returns-then-not-none_zero : goal.returns-then-not-none_zero
 returns-then-not-none_zero c = search not-zero
 

@@ -4,10 +4,11 @@ use borrow.Author.Rules.{rules}
 use Rattle.model.specs.Sizes.{mutexes}
 use Rattle.act.proofs.Releasing.{releasing}
 use Rattle.act.proofs.Loop.{counted, counted-all, in-log-more, in-log-none}
+use Rattle.state.proofs.WordLaws.{long}
 use Rattle.act.proofs.mutex.release_all.Goals as goal
 
 pub loop-n-init : goal.loop-n-init
-loop-n-init c = (releasing _ c.requires, omega arith)
+loop-n-init c = (releasing _ (long _ c.told-state), omega arith)
 
 pub release_held-next-requires : goal.release_held-next-requires
 release_held-next-requires c = let i = c.loop-n.invariant in record { state_len = i.0.words; from = (search rules, search rules) }

@@ -6,16 +6,17 @@ use mir.Facts.{to_z-of_z}
 use borrow.Author.Rules.{rules}
 use Rattle.act.proofs.EndingAll.{ending}
 use Rattle.act.proofs.Loop.{dropped, in-log-more, in-log-none}
+use Rattle.state.proofs.WordLaws.{long}
 use Rattle.act.proofs.waits.end_waits.Goals as goal
 
 pub loop-i-init : goal.loop-i-init
-loop-i-init c = (ending _ _ c.requires.state_len, omega arith, refl)
+loop-i-init c = (ending _ _ (long _ c.told-state), omega arith, refl)
 
 pub end_numbered-next-requires : goal.end_numbered-next-requires
 end_numbered-next-requires c =
     let i = c.loop-i.invariant in record {
       state_len = i.0.words;
-      from = c.requires.tasks.each
+      from = c.requires.each
           c.loop-i.i c.loop-i-test.true;
     }
 

@@ -122,9 +122,6 @@ unfolding refusals
 rel_mpf-requires c =
     record { state_len = c.requires.allowed.words; block_value = made-allowed (two RelMpf _ _ c.in-RelMpf.is c.in-RelMpf.known_told-in-RelMpf-1-own.given.0.1 c.in-RelMpf.known_told-in-RelMpf-1-own.given.1.0.1) c.requires.allowed }
 
-pub tick-requires : goal.tick-requires
-tick-requires c = c.requires.allowed.words
-
 pub returns-in-CreTsk : goal.returns-in-CreTsk
 unfolding perform
 returns-in-CreTsk c = made-carries (one CreTsk _ c.in-CreTsk.is c.in-CreTsk.known_told-1-own.given.0.1) _ (c.cre_tsk.ensures.carries _ _)

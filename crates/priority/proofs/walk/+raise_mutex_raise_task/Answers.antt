@@ -35,13 +35,13 @@ raise_task-returns-in_default t c =
 pub raise_task-raise_mutex-requires : goal.raise_task-raise_mutex-requires
 raise_task-raise_mutex-requires t c =
     let r = alone c.requires.state_len c.requires.le_v c.requires.v_le_tasks c.current.ensures c.if-current-p.false c.set_current.ensures in
-    let names = mutex-there _ _ (sym c.awaited_mutex.ensures ∙ c.in-Mutex.is) in
+    let names = mutex-there _ _ (sym c.awaited_mutex.ensures ∙ c.in-Some.is) in
     (omega (arith, c.decreases, fewer r), (r.now.length, omega (arith, names.0, names.1)))
 
 pub raise_task-returns : goal.raise_task-returns
 raise_task-returns t c =
     let r = alone c.requires.state_len c.requires.le_v c.requires.v_le_tasks c.current.ensures c.if-current-p.false c.set_current.ensures in
-    let names = mutex-there _ _ (sym c.awaited_mutex.ensures ∙ c.in-Mutex.is) in
+    let names = mutex-there _ _ (sym c.awaited_mutex.ensures ∙ c.in-Some.is) in
     onto c.raise_mutex.ensures (waits-for _ r.now.length _ _ names ∙ raised-on r)
 
 -- ---- a mutex's walk
@@ -58,11 +58,11 @@ raise_mutex-returns-in_default t c =
 
 pub raise_mutex-raise_task-requires : goal.raise_mutex-raise_task-requires
 raise_mutex-raise_task-requires t c =
-    let names = task-there _ _ (sym (rw c.holder.ensures at c.from_word.ensures) ∙ c.in-Task.is) in
+    let names = task-there _ _ (sym (rw c.holder.ensures at c.from_word.ensures) ∙ c.in-Some.is) in
     (omega (arith, c.decreases), (c.requires.state_len, (omega (arith, names.0, names.1), omega (arith, names.0, names.2))))
 
 pub raise_mutex-returns : goal.raise_mutex-returns
 raise_mutex-returns t c =
     onto c.raise_task.ensures
     (held_by _ _ _ c.requires.le_m (sym c.attribute.ensures ∙ c.if-attribute-ne-INHERITS.false)
-    (task-there _ _ (sym (rw c.holder.ensures at c.from_word.ensures) ∙ c.in-Task.is)))
+    (task-there _ _ (sym (rw c.holder.ensures at c.from_word.ensures) ∙ c.in-Some.is)))

@@ -11,9 +11,6 @@ from_word-found-requires c = search anys
 pub returns-in_default : goal.returns-in_default
 returns-in_default c = search anys
 
-pub above_ceiling-requires : goal.above_ceiling-requires
-above_ceiling-requires c = search anys
-
 pub returns-then-above_ceiling : goal.returns-then-above_ceiling
 returns-then-above_ceiling c = search anys
 

@@ -11,9 +11,6 @@ from_word-found-requires c = search anys
 pub returns-in_default : goal.returns-in_default
 returns-in_default c = search anys
 
-pub sends-requires : goal.sends-requires
-sends-requires c = search anys
-
 pub returns-then-sends : goal.returns-then-sends
 returns-then-sends c = search anys
 

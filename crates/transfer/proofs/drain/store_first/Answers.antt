@@ -8,5 +8,5 @@ store_message-requires c = record { state_len = search rules; m_value = search s
 
 pub returns : goal.returns
 returns c =
-    stores-first _ _ c.requires.first_sender c.argument-n.ensures
+    stores-first _ _ c.requires c.argument-n.ensures
     c.outbox_message-m.ensures c.store_message.ensures c.end_wait.ensures

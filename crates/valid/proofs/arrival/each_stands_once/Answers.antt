@@ -11,9 +11,6 @@ from_word-found-requires c = search asks
 pub returns-in_default : goal.returns-in_default
 returns-in_default c = search asks
 
-pub stands_once-requires : goal.stands_once-requires
-stands_once-requires c = search asks
-
 pub returns-then-not-stands_once : goal.returns-then-not-stands_once
 returns-then-not-stands_once c = search asks
 

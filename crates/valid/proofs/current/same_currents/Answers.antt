@@ -11,9 +11,6 @@ from_word-found-requires c = search asks
 pub returns-in_default : goal.returns-in_default
 returns-in_default c = search asks
 
-pub same_current-requires : goal.same_current-requires
-same_current-requires c = search asks
-
 pub returns-then-not-same_current : goal.returns-then-not-same_current
 returns-then-not-same_current c = search asks
 

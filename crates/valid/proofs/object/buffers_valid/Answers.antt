@@ -11,9 +11,6 @@ from_word-found-requires c = search asks
 pub returns-in_default : goal.returns-in_default
 returns-in_default c = search asks
 
-pub buffer_valid-requires : goal.buffer_valid-requires
-buffer_valid-requires c = search asks
-
 pub returns-then-not-buffer_valid : goal.returns-then-not-buffer_valid
 returns-then-not-buffer_valid c = search asks
 

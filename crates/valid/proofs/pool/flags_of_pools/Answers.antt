@@ -11,9 +11,6 @@ from_word-found-requires c = search asks
 pub returns-in_default : goal.returns-in_default
 returns-in_default c = search asks
 
-pub flags_of-requires : goal.flags_of-requires
-flags_of-requires c = search asks
-
 pub returns-then-not-flags_of : goal.returns-then-not-flags_of
 returns-then-not-flags_of c = search asks
 

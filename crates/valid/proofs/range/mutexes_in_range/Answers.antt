@@ -11,9 +11,6 @@ from_word-found-requires c = search asks
 pub returns-in_default : goal.returns-in_default
 returns-in_default c = search asks
 
-pub mutex_range-requires : goal.mutex_range-requires
-mutex_range-requires c = search asks
-
 pub returns-then-not-mutex_range : goal.returns-then-not-mutex_range
 returns-then-not-mutex_range c = search asks
 

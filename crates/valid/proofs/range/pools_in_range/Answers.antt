@@ -11,9 +11,6 @@ from_word-found-requires c = search asks
 pub returns-in_default : goal.returns-in_default
 returns-in_default c = search asks
 
-pub pool_range-requires : goal.pool_range-requires
-pool_range-requires c = search asks
-
 pub returns-then-not-pool_range : goal.returns-then-not-pool_range
 returns-then-not-pool_range c = search asks
 

@@ -11,9 +11,6 @@ from_word-found-requires c = search asks
 pub returns-in_default : goal.returns-in_default
 returns-in_default c = search asks
 
-pub no_sender-requires : goal.no_sender-requires
-no_sender-requires c = search asks
-
 pub returns-then-not-no_sender : goal.returns-then-not-no_sender
 returns-then-not-no_sender c = search asks
 
