@@ -5,6 +5,7 @@ ghost use Rattle.model.specs.Sizes.{tasks, mutexes, buffers, pools};
 ghost use Rattle.model.specs.Code.{number, low_byte};
 ghost use Rattle.model.specs.Number.{field_number, word_number, numbered_as, maybe_number, task_word};
 ghost use Rattle.model.specs.Lists.{all, any, first_where, up_to};
+ghost use Rattle.model.specs.Valid.{From};
 
 use super::sizes::{BUFFERS, MUTEXES, POOLS, TASKS};
 use std::marker::PhantomData;
@@ -103,8 +104,8 @@ impl<K: Object> Number<K> {
     // Whether a test, which tells p of each number, holds of every number of the kind.
     pub fn every<F: Fn(Number<K>) -> bool>(test: F) -> bool
         ghost p: { ℕ → Bool }
-        requires can { F.IsAlwaysCallable test }
-        requires tells { (n : ℕ) (r : Bool) → F.post test (numbered_as n) r → r ≡ p n }
+        requires can { (n : ℕ) → From 1 K.LAST n → F.pre test (numbered_as n) }
+        requires tells { (n : ℕ) (r : Bool) → From 1 K.LAST n → F.post test (numbered_as n) r → r ≡ p n }
         ensures { result ≡ all p (up_to K.LAST) }
     {
         for n in 0..K::LAST {
@@ -118,8 +119,8 @@ impl<K: Object> Number<K> {
     // Whether it holds of any.
     pub fn any<F: Fn(Number<K>) -> bool>(test: F) -> bool
         ghost p: { ℕ → Bool }
-        requires can { F.IsAlwaysCallable test }
-        requires tells { (n : ℕ) (r : Bool) → F.post test (numbered_as n) r → r ≡ p n }
+        requires can { (n : ℕ) → From 1 K.LAST n → F.pre test (numbered_as n) }
+        requires tells { (n : ℕ) (r : Bool) → From 1 K.LAST n → F.post test (numbered_as n) r → r ≡ p n }
         ensures { result ≡ any p (up_to K.LAST) }
     {
         for n in 0..K::LAST {
@@ -133,8 +134,8 @@ impl<K: Object> Number<K> {
     // The first number that it holds of.
     pub fn first<F: Fn(Number<K>) -> bool>(test: F) -> Option<Number<K>>
         ghost p: { ℕ → Bool }
-        requires can { F.IsAlwaysCallable test }
-        requires tells { (n : ℕ) (r : Bool) → F.post test (numbered_as n) r → r ≡ p n }
+        requires can { (n : ℕ) → From 1 K.LAST n → F.pre test (numbered_as n) }
+        requires tells { (n : ℕ) (r : Bool) → From 1 K.LAST n → F.post test (numbered_as n) r → r ≡ p n }
         ensures { result ≡ maybe_number (first_where p (up_to K.LAST)) }
     {
         for n in 0..K::LAST {

@@ -148,24 +148,6 @@ module _ (k : Kernel) (p : ℕ) where
       inside : (1 ≤ n) × (n < 1 + tasks)
       inside = let r = names-one tasks n (λ none. false≢true (sym (none-ready k n long none) ∙ stands)) in (r.0, omega (arith, r.1))
 
-  -- the tasks from a number on decide whether there is one,
-  pub ready-all : ready_at (facts k) k.tasks.current p ≡ any (is_ready_at k p) (numbers tasks 1)
-  unfolding ready_at is_ready_at is_ready
-  ready-all = rest_all (any (is_ready_at k p)) tasks
-
-  module _ {n : ℕ} (left : ready_at (facts k) k.tasks.current p ≡ any (is_ready_at k p) (numbers tasks n)) where
-    here : n ≤ tasks → ready_at (facts k) k.tasks.current p ≡ is_ready_at k p n || any (is_ready_at k p) (numbers tasks (n + 1))
-    here l = left ∙ rest-here (any (is_ready_at k p)) tasks n l
-
-    pub ready-hit : n ≤ tasks → {r : Bool} → r ≡ is_ready_at k p n → r ≡ true → true ≡ ready_at (facts k) k.tasks.current p
-    ready-hit l e t = sym (here l ∙ or_left _ _ (sym e ∙ t))
-
-    pub ready-more : n ≤ tasks → {r : Bool} → r ≡ is_ready_at k p n → r ≡ false → ready_at (facts k) k.tasks.current p ≡ any (is_ready_at k p) (numbers tasks (n + 1))
-    ready-more l e f = here l ∙ ap (λ (b : Bool). b || any (is_ready_at k p) (numbers tasks (n + 1))) (sym e ∙ f)
-
-    pub ready-end : tasks < n → false ≡ ready_at (facts k) k.tasks.current p
-    ready-end l = sym (left ∙ rest-done (any (is_ready_at k p)) tasks n l)
-
 -- ---- as the words are asked
 
 -- the task of a number that is ready

@@ -51,12 +51,7 @@ fn task_ready_at(state: &Words, n: u32, p: u32) -> bool
 fn any_ready_at(state: &Words, p: u32) -> bool
     ensures { result ≡ ready_at (facts (kernel state.now)) (kernel state.now).tasks.current p }
 {
-    for n in 1..=TASKS {
-        if task_ready_at(state, n, p) {
-            return true;
-        }
-    }
-    false
+    TaskNumber::any(|t| task_ready_at(state, t.word(), p))
 }
 
 // The same, one number first: a task that has become ready at the priority spares the search.

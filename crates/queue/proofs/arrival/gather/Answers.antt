@@ -11,7 +11,7 @@ pub loop-i-init : goal.loop-i-init
 loop-i-init c = gather-start _ _ (long _ c.told-state)
 
 pub keep-j-requires : goal.keep-j-requires
-keep-j-requires c = let g = c.loop-i.invariant in (g.state.length, (let f = g.few in let w = g.within in omega arith))
+keep-j-requires c = let g = c.loop-i.invariant in let f = g.few in let w = g.within in omega arith
 
 pub loop-i-smaller : goal.loop-i-smaller
 loop-i-smaller c = omega arith

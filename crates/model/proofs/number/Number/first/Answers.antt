@@ -12,11 +12,11 @@ loop-n-init g c = rest_all (first_where g.p) _
 
 pub returns-then-test : goal.returns-then-test
 returns-then-test g c =
-    number-some _ ∙ ap maybe_number (sym (first-stop g.p _ _ (omega (arith, c.LAST-n-end.ensures)) (c.requires.1.1.1 _ _ c.test.ensures) c.loop-n.invariant c.if-test.true))
+    number-some _ ∙ ap maybe_number (sym (first-stop g.p _ _ (omega (arith, c.LAST-n-end.ensures)) (c.requires.1.1.1 _ _ (omega (arith, c.LAST-n-end.ensures)) c.test.ensures) c.loop-n.invariant c.if-test.true))
 
 pub loop-n-preserved : goal.loop-n-preserved
 loop-n-preserved g c =
-    first-more g.p _ _ (omega (arith, c.LAST-n-end.ensures)) (c.requires.1.1.1 _ _ c.test.ensures) c.loop-n.invariant c.if-test.false
+    first-more g.p _ _ (omega (arith, c.LAST-n-end.ensures)) (c.requires.1.1.1 _ _ (omega (arith, c.LAST-n-end.ensures)) c.test.ensures) c.loop-n.invariant c.if-test.false
 
 pub returns : goal.returns
 returns g c = number-none ∙ ap maybe_number (sym (rest-over (first_where g.p) _ _ c.loop-n.invariant (omega (arith, c.LAST-n-end.ensures))))
