@@ -27,5 +27,5 @@ fn above_ceiling(state: &Words, base: u32, t: TaskNumber, m: MutexNumber) -> boo
 pub fn above_any_ceiling(state: &Words, base: u32, t: TaskNumber) -> bool
     ensures { result ≡ any (above_ceiling (kernel state.now) base t.0) (up_to mutexes) }
 {
-    MutexNumber::any(|m| above_ceiling(state, base, t, m))
+    MutexNumber::any(move |m| above_ceiling(state, base, t, m))
 }

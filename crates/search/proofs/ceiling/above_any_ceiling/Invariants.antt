@@ -4,4 +4,4 @@ use Rattle.model.specs.Words.{kernel}
 use Rattle.search.proofs.ceiling.above_any_ceiling.Given as goal
 
 abbrev pub ghost-any : goal.ghost-any
-ghost-any a = above_ceiling (kernel a.test.0.now) a.test.1.now a.test.2.now.0
+ghost-any a = above_ceiling (kernel a.test.0.now) a.test.1 a.test.2.0

@@ -6,4 +6,4 @@ use Rattle.model.specs.Words.{kernel}
 use Rattle.search.proofs.sender.anyone_sends.Given as goal
 
 abbrev pub ghost-any : goal.ghost-any
-ghost-any a = λ t. eqb ((kernel a.test.now).tasks.place ! t) sending
+ghost-any a = λ t. eqb ((kernel a.test.0.now).tasks.place ! t) sending

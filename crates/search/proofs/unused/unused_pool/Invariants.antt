@@ -5,4 +5,4 @@ use Rattle.model.specs.Words.{kernel}
 use Rattle.search.proofs.unused.unused_pool.Given as goal
 
 abbrev pub ghost-first : goal.ghost-first
-ghost-first a = λ n. eqb ((kernel a.test.now).pools.exists ! n) 0
+ghost-first a = λ n. eqb ((kernel a.test.0.now).pools.exists ! n) 0
