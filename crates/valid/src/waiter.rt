@@ -10,7 +10,6 @@ ghost use Rattle.valid.specs.Parts.{no_sender};
 
 use super::entry;
 use model::number::{BufferNumber, PoolNumber, TaskNumber};
-use model::sizes::TASKS;
 use search::block::free_block;
 use search::sender::first_fitting;
 use state::layout::Words;
@@ -50,16 +49,7 @@ fn no_sender(state: &Words, b: u32, s: TaskNumber) -> bool
 fn no_senders(state: &Words, b: u32) -> bool
     ensures { result ≡ all (no_sender (kernel state.now) b) (up_to tasks) }
 {
-    for n in 1..=TASKS {
-        let found = TaskNumber::from_word(n);
-        let Some(s) = found else {
-            return false;
-        };
-        if !no_sender(state, b, s) {
-            return false;
-        }
-    }
-    true
+    TaskNumber::every(move |s| no_sender(state, b, s))
 }
 
 // "no receivers beside messages or senders".

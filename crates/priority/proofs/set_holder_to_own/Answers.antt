@@ -16,7 +16,7 @@ returns-in_default c = onto (unchanged (long _ c.told-state)) (holder-none _ _ (
 pub own_priority-p-requires : goal.own_priority-p-requires
 own_priority-p-requires c =
     let is-holder : let a = c.args in Names tasks (ceiling_holder (kernel a.state.now) a.n) c.in-Some.t.0 = task-there _ _ (sym c.ceiling_holder.ensures ∙ c.in-Some.is) in
-    let names = is-holder in record { state_len = (long _ c.told-state); le_t = omega arith }
+    let names = is-holder in (omega arith)
 
 pub returns : goal.returns
 returns c =

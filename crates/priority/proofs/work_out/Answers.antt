@@ -14,7 +14,7 @@ pub loop-n-init : goal.loop-n-init
 loop-n-init c = (record { length = c.start_from_own.ensures.length; kernel = passed_start _ }, omega arith)
 
 pub pass_on-requires : goal.pass_on-requires
-pass_on-requires c = record { state_len = c.loop-n.invariant.0.length; le_n = omega arith; n_le_tasks = omega arith }
+pass_on-requires c = record { le_n = omega arith; n_le_tasks = omega arith }
 
 pub loop-n-preserved : goal.loop-n-preserved
 loop-n-preserved c = (turn passed_so_far passed_on _ _ c.loop-n.invariant.0 c.pass_on.ensures (passed-step _ _), omega arith)

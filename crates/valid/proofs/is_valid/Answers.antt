@@ -13,7 +13,7 @@ returns-then-not-none_zero c = search not-zero
 pub clauses_hold-requires : goal.clauses_hold-requires
 clauses_hold-requires c =
     let n = none-lists _ _ c.none_zero.ensures (ap not c.if-not-none_zero.false) in
-    record { state_len = search right-words; task_lists = n.0; mutex_lists = n.1.0; buffer_lists = n.1.1.0; pool_lists = n.1.1.1 }
+    record { task_lists = n.0; mutex_lists = n.1.0; buffer_lists = n.1.1.0; pool_lists = n.1.1.1 }
 
 pub returns : goal.returns
 returns c = search by-clauses

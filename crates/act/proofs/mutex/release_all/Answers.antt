@@ -11,7 +11,7 @@ pub loop-n-init : goal.loop-n-init
 loop-n-init c = (releasing _ (long _ c.told-state), omega arith)
 
 pub release_held-next-requires : goal.release_held-next-requires
-release_held-next-requires c = let i = c.loop-n.invariant in record { state_len = i.0.words; from = (search rules, search rules) }
+release_held-next-requires c = let i = c.loop-n.invariant in ((search rules, search rules))
 
 pub loop-n-preserved : goal.loop-n-preserved
 loop-n-preserved c =

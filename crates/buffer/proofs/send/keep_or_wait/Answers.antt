@@ -6,7 +6,7 @@ use Rattle.state.proofs.WordLaws.{long}
 use Rattle.buffer.proofs.send.keep_or_wait.Goals as goal
 
 pub keep-requires : goal.keep-requires
-keep-requires c = record { state_len = (long _ c.told-state); m_value = storable-fits _ _ _ (sym c.storable.ensures ∙ c.if-storable.true) }
+keep-requires c = (storable-fits _ _ _ (sym c.storable.ensures ∙ c.if-storable.true))
 
 pub returns-then-storable : goal.returns-then-storable
 returns-then-storable c = sends-kept _ _ _ _ c.requires.b_value c.storable.ensures c.if-storable.true c.keep.ensures

@@ -14,7 +14,7 @@ pub slice_bounds-m-end : goal.slice_bounds-m-end
 slice_bounds-m-end c = counts-part _ _ c.if-n-message.true
 
 pub send-requires : goal.send-requires
-send-requires c = record { state_len = (long _ c.told-state); caller_value = c.requires.caller_value; m_len_bound = counts-short c.least-n.result _ (omega (arith, c.least-n.ensures)) }
+send-requires c = record { caller_value = c.requires.caller_value; m_len_bound = counts-short c.least-n.result _ (omega (arith, c.least-n.ensures)) }
 
 pub returns-then-n-message : goal.returns-then-n-message
 returns-then-n-message c =
@@ -29,7 +29,7 @@ slice_bounds-m-end-2 c =
     c.put.ensures
 
 pub send-requires-2 : goal.send-requires-2
-send-requires-2 c = record { state_len = (long _ c.told-state); caller_value = c.requires.caller_value; m_len_bound = counts-short c.least-n.result _ (omega (arith, c.least-n.ensures)) }
+send-requires-2 c = record { caller_value = c.requires.caller_value; m_len_bound = counts-short c.least-n.result _ (omega (arith, c.least-n.ensures)) }
 
 pub returns : goal.returns
 returns c =

@@ -17,7 +17,7 @@ returns-in_default c =
 pub refuse_made-requires : goal.refuse_made-requires
 refuse_made-requires c =
     let r = caller_runs _ c.requires c.in-Some.is in
-    record { state_len = (long _ c.told-state); caller_value = r.0; le_caller = r.1 }
+    record { caller_value = r.0; le_caller = r.1 }
 
 pub returns : goal.returns
 returns c = c.refuse_made.ensures

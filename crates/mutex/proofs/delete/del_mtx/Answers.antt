@@ -13,7 +13,7 @@ returns-in_default c =
     c.requires c.in_default.is)
 
 pub end_waits-next-requires : goal.end_waits-next-requires
-end_waits-next-requires c = record { state_len = c.strike_out.ensures.length; tasks = put-down-tasks _ _ c.queue_order-start.ensures c.queue_order-start.auto.order }
+end_waits-next-requires c = (put-down-tasks _ _ c.queue_order-start.ensures c.queue_order-start.auto.order)
 
 pub returns : goal.returns
 unfolding del_mtx settled with_kernel

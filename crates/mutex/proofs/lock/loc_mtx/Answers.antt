@@ -18,7 +18,7 @@ returns-then-holder-ne0 c =
 
 pub take-requires : goal.take-requires
 take-requires c =
-    record { state_len = (long _ c.told-state); priorities = c.requires.priorities; bitmap = c.requires.bitmap; each = c.requires.each; m_value = sym c.holder.ensures ∙ c.if-holder-ne0.false }
+    record { priorities = c.requires.priorities; bitmap = c.requires.bitmap; each = c.requires.each; m_value = sym c.holder.ensures ∙ c.if-holder-ne0.false }
 
 pub returns : goal.returns
 returns c =

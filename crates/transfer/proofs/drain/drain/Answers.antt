@@ -18,7 +18,7 @@ pub loop-n-init : goal.loop-n-init
 loop-n-init c = (left-drain, search rules, (long _ c.told-state), refl, refl, refl)
 
 pub drain_numbered-next-requires : goal.drain_numbered-next-requires
-drain_numbered-next-requires c = record { state_len = c.loop-n.invariant.2; from = (search rules, search rules) }
+drain_numbered-next-requires c = ((search rules, search rules))
 
 pub loop-n-preserved : goal.loop-n-preserved
 loop-n-preserved c =

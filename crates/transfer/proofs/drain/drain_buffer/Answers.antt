@@ -16,7 +16,7 @@ pub returns-in_default : goal.returns-in_default
 returns-in_default c = let l = c.loop in serve-none _ (tasks - l.counter) l.invariant.0 (search first-none)
 
 pub store_first-next-requires : goal.store_first-next-requires
-store_first-next-requires c = record { state_len = search rules; first_sender = search first-sender }
+store_first-next-requires c = (search first-sender)
 
 pub loop-preserved : goal.loop-preserved
 loop-preserved c =

@@ -4,7 +4,7 @@ use Rattle.transfer.proofs.Serving.{sender-fits, stores-first}
 use Rattle.transfer.proofs.drain.store_first.Goals as goal
 
 pub store_message-requires : goal.store_message-requires
-store_message-requires c = record { state_len = search rules; m_value = search sender-fits }
+store_message-requires c = (search sender-fits)
 
 pub returns : goal.returns
 returns c =
