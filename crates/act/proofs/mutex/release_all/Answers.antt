@@ -1,5 +1,6 @@
 -- `release_all` meets its contract: what is left are the mutexes from the next one on. Assumes nothing.
 use native.Mathlib.Omega.{arith}
+use mathlib.Core.Path.{◌∙◌, sym}
 use borrow.Author.Rules.{rules}
 use Rattle.model.specs.Sizes.{mutexes}
 use Rattle.act.proofs.Releasing.{releasing}
@@ -18,7 +19,7 @@ loop-n-preserved c =
     let i = c.loop-n.invariant in
     let k = c.release_held-next.auto in (
       in-log-more _ (counted mutexes c.loop-n.n
-          c.loop-n-test.true) i.0 k.state k.outbox k.log
+          c.loop-n-test.true) i.0 (long _ c.release_held-next.array_long ∙ sym i.0.words) k.outbox k.log
           c.release_held-next.ensures,
       search rules,
     )

@@ -1,6 +1,6 @@
 -- `end_waits` meets its contract: what is left is the order from the next place on. Assumes nothing.
 use native.Mathlib.Omega.{arith}
-use mathlib.Core.Path.{refl}
+use mathlib.Core.Path.{◌∙◌, refl, sym}
 use lib.ListN.{drop_of_length-le}
 use mir.Facts.{to_z-of_z}
 use borrow.Author.Rules.{rules}
@@ -22,7 +22,7 @@ loop-i-preserved c =
     let i = c.loop-i.invariant in
     let k = c.end_numbered-next.auto in (
       in-log-more _ (dropped _ c.loop-i.i
-          c.loop-i-test.true) i.0 k.state k.outbox k.log
+          c.loop-i-test.true) i.0 (long _ c.end_numbered-next.array_long ∙ sym i.0.words) k.outbox k.log
           c.end_numbered-next.ensures,
       search rules,
       refl,
