@@ -8,10 +8,8 @@ use Rattle.model.proofs.NumberLaws.{buffer_kind, task-is, task-is-none}
 use Rattle.script.specs.Place.{Appends}
 use Rattle.script.proofs.Appending.{wrote, wrote-more}
 use Rattle.act.specs.Held.{areas, DoesInWords, DoesInStore, DoesInLog}
-use Rattle.reply.specs.declared.Verdict.{Verdict}
-use Rattle.reply.specs.declared.Verdict.TheVariants.{Allowed, Refused}
 use Rattle.reply.specs.declared.Reply.{Reply}
-use Rattle.reply.specs.Replies.{verdict, lent_world, Carries, CarriesInWords, CarriesInStore, CarriesInLog}
+use Rattle.reply.specs.Replies.{lent_world, Carries, CarriesInWords, CarriesInStore, CarriesInLog}
 use Rattle.reply.proofs.Refusing.{numbered, never-unnumbered, number-refused, missing-refused, there-later}
 use Rattle.reply.proofs.Replying.{answer-alone, carried-in-words, carried-in-store, carried-in-log, carries-as, in-log-as}
 use Rattle.reply.proofs.Conditions.{timeout-refused, timeout-later, time-refused, time-later}
@@ -43,11 +41,11 @@ module _ (k : Kernel) (buffer timeout : ℤ) where
   abbrev named : List Refusal
   named = bad_number buffers buffer ∷ no_such k.buffers.exists buffer ∷ late ∷ []
 
-  abbrev Answers : Verdict → Type 0
-  Answers v = v ≡ verdict (first_refusal (rcv_mbf_refusals k buffer timeout))
+  abbrev Answers : Option ℤ → Type 0
+  Answers v = v ≡ first_refusal (rcv_mbf_refusals k buffer timeout)
 
   module _ {a : ℤ} (a-is : a ≡ timeout) {r : Bool} (r-is : r ≡ (bad_timeout a).applies) where
-    pub receive-timeout : r ≡ true → Answers (Refused E_PAR)
+    pub receive-timeout : r ≡ true → Answers (some E_PAR)
     unfolding rcv_mbf_refusals
     receive-timeout e = timeout-refused timeout a-is r-is named e
 
@@ -55,25 +53,25 @@ module _ (k : Kernel) (buffer timeout : ℤ) where
       made : found ≡ maybe_buffer (field_number buffer buffers)
       made = rw x-is at from
 
-      after-timeout : {v : Verdict} → v ≡ verdict (first_refusal named) → Answers v
+      after-timeout : {v : Option ℤ} → v ≡ first_refusal named → Answers v
       unfolding rcv_mbf_refusals
       after-timeout f = timeout-later timeout a-is r-is named fine f
 
-      pub receive-numberless : found ≡ None → Answers (Refused E_ID)
+      pub receive-numberless : found ≡ None → Answers (some E_ID)
       receive-numberless e = after-timeout (number-refused buffer_kind buffer made (no_such k.buffers.exists buffer ∷ late ∷ []) e)
 
       module _ {b : BufferNumber} (some : found ≡ Some b) {v : ℕ} (v-is : v ≡ k.buffers.exists ! b.0) where
-        pub receive-missing : v ≡ 0 → Answers (Refused E_NOEXS)
+        pub receive-missing : v ≡ 0 → Answers (some E_NOEXS)
         receive-missing e = after-timeout (missing-refused buffer_kind buffer made k.buffers.exists (late ∷ []) some v-is e)
 
         module _ (there : v ≢ 0) {w : Bool} (w-is : w ≡ receive_waits k b.0) {u : Bool} (u-is : u ≡ (no_time a w).applies) where
           waits-is : w ≡ receive_waits k (number buffer)
           waits-is = rw (numbered buffer_kind buffer made some).1 w-is
 
-          lately : {v : Verdict} → v ≡ verdict (first_refusal (late ∷ [])) → Answers v
+          lately : {v : Option ℤ} → v ≡ first_refusal (late ∷ []) → Answers v
           lately f = after-timeout (there-later buffer_kind buffer made k.buffers.exists (late ∷ []) some v-is there f)
 
-          pub receive-late : u ≡ true → Answers (Refused E_TMOUT)
+          pub receive-late : u ≡ true → Answers (some E_TMOUT)
           receive-late e = lately (time-refused timeout (receive_waits k (number buffer)) a-is waits-is u-is [] e)
 
           pub receive-allowed : u ≡ false → Answers Allowed

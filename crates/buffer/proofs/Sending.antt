@@ -14,10 +14,8 @@ use Rattle.script.specs.Place.{Appends, placed}
 use Rattle.script.proofs.Padding.{padded-placed}
 use Rattle.act.specs.Held.{areas, DoesInWords, DoesInStore, DoesInLog}
 use Rattle.act.proofs.Doing.{does}
-use Rattle.reply.specs.declared.Verdict.{Verdict}
-use Rattle.reply.specs.declared.Verdict.TheVariants.{Allowed, Refused}
 use Rattle.reply.specs.declared.Reply.{Reply}
-use Rattle.reply.specs.Replies.{verdict, lent_world, Carries, CarriesInStore, CarriesInLog}
+use Rattle.reply.specs.Replies.{lent_world, Carries, CarriesInStore, CarriesInLog}
 use Rattle.reply.proofs.Refusing.{refused-here, refused-later, numbered, never-unnumbered, number-refused, missing-refused, there-later}
 use Rattle.reply.proofs.Replying.{answer-alone, carried-in-store, carried-in-log, carries-as}
 use Rattle.reply.proofs.Conditions.{timeout-refused, timeout-later, time-refused, time-later}
@@ -88,34 +86,34 @@ module _ (k : Kernel) (buffer msgsz timeout : ℤ) (bytes : List ℕ) where
   abbrev named : List Refusal
   named = bad_number buffers buffer ∷ no_such k.buffers.exists buffer ∷ long ∷ late ∷ []
 
-  abbrev Answers : Verdict → Type 0
-  Answers v = v ≡ verdict (first_refusal (snd_mbf_refusals k buffer msgsz timeout bytes))
+  abbrev Answers : Option ℤ → Type 0
+  Answers v = v ≡ first_refusal (snd_mbf_refusals k buffer msgsz timeout bytes)
 
   module _ {a : ℤ} (a-is : a ≡ timeout) {r : Bool} (r-is : r ≡ (bad_timeout a).applies) where
-    pub send-timeout : r ≡ true → Answers (Refused E_PAR)
+    pub send-timeout : r ≡ true → Answers (some E_PAR)
     unfolding snd_mbf_refusals
     send-timeout e = timeout-refused timeout a-is r-is (empty ∷ dirty ∷ named) e
 
     module _ (fine : r ≡ false) {l : ℤ} (l-is : l ≡ msgsz) where
-      after-timeout : {v : Verdict} → v ≡ verdict (first_refusal (empty ∷ dirty ∷ named)) → Answers v
+      after-timeout : {v : Option ℤ} → v ≡ first_refusal (empty ∷ dirty ∷ named) → Answers v
       unfolding snd_mbf_refusals
       after-timeout f = timeout-later timeout a-is r-is (empty ∷ dirty ∷ named) fine f
 
-      pub send-empty : le_z l (pos 0) ≡ true → Answers (Refused E_PAR)
+      pub send-empty : le_z l (pos 0) ≡ true → Answers (some E_PAR)
       send-empty e = after-timeout (refused-here empty (dirty ∷ named) (rw l-is at e))
 
       module _ (some_bytes : le_z l (pos 0) ≡ false) {d : Bool} (d-is : d ≡ (dirty_tail l bytes).applies) where
-        after-empty : {v : Verdict} → v ≡ verdict (first_refusal (dirty ∷ named)) → Answers v
+        after-empty : {v : Option ℤ} → v ≡ first_refusal (dirty ∷ named) → Answers v
         after-empty f = after-timeout (refused-later empty (dirty ∷ named) (rw l-is at some_bytes) f)
 
         dirty-is : dirty.applies ≡ d
         dirty-is = sym (rw l-is at d-is)
 
-        pub send-dirty : d ≡ true → Answers (Refused E_PAR)
+        pub send-dirty : d ≡ true → Answers (some E_PAR)
         unfolding dirty_tail
         send-dirty e = after-empty (refused-here dirty named (dirty-is ∙ e))
 
-        after-clean : d ≡ false → {v : Verdict} → v ≡ verdict (first_refusal named) → Answers v
+        after-clean : d ≡ false → {v : Option ℤ} → v ≡ first_refusal named → Answers v
         after-clean clean f = after-empty (refused-later dirty named (dirty-is ∙ clean) f)
 
       module _ (some_bytes : le_z l (pos 0) ≡ false) {d : Bool} (d-is : d ≡ (dirty_tail l bytes).applies) (clean : d ≡ false)
@@ -123,37 +121,37 @@ module _ (k : Kernel) (buffer msgsz timeout : ℤ) (bytes : List ℕ) where
         made : found ≡ maybe_buffer (field_number buffer buffers)
         made = rw x-is at from
 
-        after_tail : {v : Verdict} → v ≡ verdict (first_refusal named) → Answers v
+        after_tail : {v : Option ℤ} → v ≡ first_refusal named → Answers v
         after_tail f = after-clean some_bytes d-is clean f
 
-        pub send-numberless : found ≡ None → Answers (Refused E_ID)
+        pub send-numberless : found ≡ None → Answers (some E_ID)
         send-numberless e = after_tail (number-refused buffer_kind buffer made (no_such k.buffers.exists buffer ∷ long ∷ late ∷ []) e)
 
         module _ {b : BufferNumber} (some : found ≡ Some b) {v : ℕ} (v-is : v ≡ k.buffers.exists ! b.0) where
           is-buffer : number buffer ≡ b.0
           is-buffer = (numbered buffer_kind buffer made some).1
 
-          pub send-missing : v ≡ 0 → Answers (Refused E_NOEXS)
+          pub send-missing : v ≡ 0 → Answers (some E_NOEXS)
           send-missing e = after_tail (missing-refused buffer_kind buffer made k.buffers.exists (long ∷ late ∷ []) some v-is e)
 
           module _ (there : v ≢ 0) {y : ℤ} (y-is : y ≡ msgsz) {n : ℕ} (n-is : n ≡ number y) {m : ℕ} (m-is : m ≡ k.buffers.maxmsz ! b.0) where
             size : n ≡ number msgsz
             size = rw y-is at n-is
 
-            later : {v : Verdict} → v ≡ verdict (first_refusal (long ∷ late ∷ [])) → Answers v
+            later : {v : Option ℤ} → v ≡ first_refusal (long ∷ late ∷ []) → Answers v
             later e = after_tail (there-later buffer_kind buffer made k.buffers.exists (long ∷ late ∷ []) some v-is there e)
 
-            pub send-long : m < n → Answers (Refused E_PAR)
+            pub send-long : m < n → Answers (some E_PAR)
             send-long h = later (refused-here long (late ∷ []) (rw (is-buffer, ← m-is) (longer m msgsz (rw size at h))))
 
             module _ (short : n ≤ m) {w : Bool} (w-is : w ≡ send_waits k b.0 n) {u : Bool} (u-is : u ≡ (no_time a w).applies) where
               waits-is : w ≡ send_waits k (number buffer) (number msgsz)
               waits-is = rw (is-buffer, ← size) w-is
 
-              lately : {v : Verdict} → v ≡ verdict (first_refusal (late ∷ [])) → Answers v
+              lately : {v : Option ℤ} → v ≡ first_refusal (late ∷ []) → Answers v
               lately f = later (refused-later long (late ∷ []) (rw (is-buffer, ← m-is) (not-longer m msgsz (rw size at short))) f)
 
-              pub send-late : u ≡ true → Answers (Refused E_TMOUT)
+              pub send-late : u ≡ true → Answers (some E_TMOUT)
               send-late e = lately (time-refused timeout (send_waits k (number buffer) (number msgsz)) a-is waits-is u-is [] e)
 
               pub send-allowed : u ≡ false → Answers Allowed

@@ -35,10 +35,8 @@ use Rattle.model.proofs.RefusalLaws.{none-applies, in-range}
 use Rattle.script.proofs.Signed.{read_back}
 use Rattle.message.proofs.Messages.{oldest_length-packed}
 use Rattle.valid.specs.Agree.{valid-agrees}
-use Rattle.reply.specs.declared.Verdict.{Verdict}
-use Rattle.reply.specs.declared.Verdict.TheVariants.{Allowed as Free, Refused}
 use Rattle.reply.specs.declared.Reply.{Reply}
-use Rattle.reply.specs.Replies.{verdict, Carries}
+use Rattle.reply.specs.Replies.{Carries}
 use Rattle.reply.proofs.Refusing.{refused-here}
 use Rattle.buffer.specs.Stored.{Answerable}
 use Rattle.call.specs.Steps.{Allowed, is_tick}
@@ -118,8 +116,8 @@ none-behind (r ∷ rs) e = sym (refusal-not r rs (none-applies (r ∷ rs) e 0)) 
 
 module _ {c x : Call} (is : c ≡ x) where
   -- its own conditions refuse it, since somebody runs
-  pub made-refused : (k : Kernel) (bytes : List ℕ) {t : ℕ} {v : Verdict} → (t ≡ running k) × (1 ≤ t) → v ≡ verdict (first_refusal (rest (refusals k x bytes)))
-      → v ≡ verdict (first_refusal (refusals k c bytes))
+  pub made-refused : (k : Kernel) (bytes : List ℕ) {t : ℕ} {v : Option ℤ} → (t ≡ running k) × (1 ≤ t) → v ≡ first_refusal (rest (refusals k x bytes))
+      → v ≡ first_refusal (refusals k c bytes)
   unfolding nobody_runs
   made-refused k bytes (runs, some) e = rw (is, own_first k x bytes (ne_eqb (running k) 0 (λ q. absurd (omega arith)))) e
 
@@ -146,19 +144,19 @@ module _ (k : Kernel) (c : Call) (bytes : List ℕ) {caller : Option TaskNumber}
   unfolding nobody_runs
   nobody-runs = eq-eqb (running k) 0 (task-is-none (running k) (sym runs ∙ nobody))
 
-  pub nobody-refused : is_tick c ≡ false → Refused E_CTX ≡ verdict (first_refusal (refusals k c bytes))
+  pub nobody-refused : is_tick c ≡ false → some E_CTX ≡ first_refusal (refusals k c bytes)
   unfolding nobody_runs kind_of
   nobody-refused n = go (tick-or-made k c bytes)
     where
-      go : (c ≡ Tick) ⊎ Made k c bytes → Refused E_CTX ≡ verdict (first_refusal (refusals k c bytes))
+      go : (c ≡ Tick) ⊎ Made k c bytes → some E_CTX ≡ first_refusal (refusals k c bytes)
       go (inl e) = absurd (true≢false (sym (ap is_tick e) ∙ n))
       go (inr m) = rw m.first (refused-here (nobody_runs k) (rest (refusals k c bytes)) nobody-runs)
 
-  pub nobody-free : is_tick c ≡ true → Free ≡ verdict (first_refusal (refusals k c bytes))
+  pub nobody-free : is_tick c ≡ true → Free ≡ first_refusal (refusals k c bytes)
   unfolding refusals
   nobody-free y = go (tick-or-made k c bytes)
     where
-      go : (c ≡ Tick) ⊎ Made k c bytes → Free ≡ verdict (first_refusal (refusals k c bytes))
+      go : (c ≡ Tick) ⊎ Made k c bytes → Free ≡ first_refusal (refusals k c bytes)
       go (inl e) = rw e
       go (inr m) = absurd (true≢false (sym y ∙ m.not-tick))
 

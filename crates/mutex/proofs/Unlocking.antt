@@ -6,8 +6,7 @@ use Rattle.model.specs.declared.call.Answer.TheVariants.{Code}
 use Rattle.model.proofs.NumberLaws.{mutex_kind}
 use Rattle.script.specs.Place.{Appends}
 use Rattle.act.specs.Held.{DoesInLog}
-use Rattle.reply.specs.declared.Verdict.TheVariants.{Allowed, Refused}
-use Rattle.reply.specs.Replies.{verdict, CarriesInLog}
+use Rattle.reply.specs.Replies.{CarriesInLog}
 use Rattle.reply.proofs.Refusing.{refused-here, refused-later, numbered, never-unnumbered, number-refused, missing-refused, there-later}
 use Rattle.reply.proofs.Replying.{answer-alone, carried-in-log}
 
@@ -18,12 +17,12 @@ module _ (k : Kernel) (mutex : ℤ) {b : ℤ} (b-is : b ≡ mutex) {found : Opti
   abbrev unheld : Refusal
   unheld = refuse 8 E_ILUSE (not (eqb (k.mutexes.holder ! number mutex) (running k)))
 
-  pub unlock-numberless : found ≡ None → Refused E_ID ≡ verdict (first_refusal (unl_mtx_refusals k mutex))
+  pub unlock-numberless : found ≡ None → some E_ID ≡ first_refusal (unl_mtx_refusals k mutex)
   unfolding unl_mtx_refusals
   unlock-numberless e = number-refused mutex_kind mutex made (no_such k.mutexes.exists mutex ∷ unheld ∷ []) e
 
   module _ {m : MutexNumber} (some : found ≡ Some m) {x : ℕ} (x-is : x ≡ k.mutexes.exists ! m.0) where
-    pub unlock-missing : x ≡ 0 → Refused E_NOEXS ≡ verdict (first_refusal (unl_mtx_refusals k mutex))
+    pub unlock-missing : x ≡ 0 → some E_NOEXS ≡ first_refusal (unl_mtx_refusals k mutex)
     unfolding unl_mtx_refusals
     unlock-missing e = missing-refused mutex_kind mutex made k.mutexes.exists (unheld ∷ []) some x-is e
 
@@ -31,13 +30,13 @@ module _ (k : Kernel) (mutex : ℤ) {b : ℤ} (b-is : b ≡ mutex) {found : Opti
       is-mutex : number mutex ≡ m.0
       is-mutex = (numbered mutex_kind mutex made some).1
 
-      pub unlock-unheld : holder ≢ t → Refused E_ILUSE ≡ verdict (first_refusal (unl_mtx_refusals k mutex))
+      pub unlock-unheld : holder ≢ t → some E_ILUSE ≡ first_refusal (unl_mtx_refusals k mutex)
       unfolding unl_mtx_refusals
       unlock-unheld e =
           there-later mutex_kind mutex made k.mutexes.exists (unheld ∷ []) some x-is there
           (refused-here unheld [] (rw (is-mutex, ne_eqb (k.mutexes.holder ! m.0) (running k) (λ q. e (h-is ∙ q ∙ sym runs ∙ sym t-is)))))
 
-      pub unlock-allowed : holder ≡ t → Allowed ≡ verdict (first_refusal (unl_mtx_refusals k mutex))
+      pub unlock-allowed : holder ≡ t → none ≡ first_refusal (unl_mtx_refusals k mutex)
       unfolding unl_mtx_refusals
       unlock-allowed e =
           there-later mutex_kind mutex made k.mutexes.exists (unheld ∷ []) some x-is there

@@ -7,9 +7,7 @@ use Rattle.model.specs.declared.call.Answer.TheVariants.{Code}
 use Rattle.model.proofs.NumberLaws.{pool_kind}
 use Rattle.state.specs.Words.{Represents}
 use Rattle.script.specs.Place.{Appends}
-use Rattle.reply.specs.declared.Verdict.{Verdict}
-use Rattle.reply.specs.declared.Verdict.TheVariants.{Allowed, Refused}
-use Rattle.reply.specs.Replies.{verdict, CarriesInWords}
+use Rattle.reply.specs.Replies.{CarriesInWords}
 use Rattle.reply.proofs.Refusing.{refused-here, refused-later}
 use Rattle.reply.proofs.Conditions.{attribute-refused, attribute-later, field-refused, field-later}
 use Rattle.reply.proofs.Creations.{full-refused, unused-later, never-full, creates}
@@ -29,33 +27,33 @@ module _ (k : Kernel) (attribute count size : ℤ) {b : ℤ} (b-is : b ≡ attri
   abbrev beyond : Refusal
   beyond = refuse 10 E_NOMEM (ltb pool_bytes (pool_sum k + number count * number size))
 
-  pub create-attribute : lt_z b (pos 0) || not allowed ≡ true → Refused E_RSATR ≡ verdict (first_refusal (cre_mpf_refusals k attribute count size))
+  pub create-attribute : lt_z b (pos 0) || not allowed ≡ true → some E_RSATR ≡ first_refusal (cre_mpf_refusals k attribute count size)
   unfolding cre_mpf_refusals
   create-attribute e = attribute-refused pool_attributes attribute b-is a-is allowed-is (uncounted ∷ unsized ∷ full ∷ beyond ∷ []) e
 
   module _ (fine : lt_z b (pos 0) || not allowed ≡ false) {c : ℤ} (c-is : c ≡ count) {few : Bool} (few-is : few ≡ outside (pos 1) (pos blocks) c) where
-    after-attribute : {v : Verdict} → v ≡ verdict (first_refusal (uncounted ∷ unsized ∷ full ∷ beyond ∷ []))
-        → v ≡ verdict (first_refusal (cre_mpf_refusals k attribute count size))
+    after-attribute : {v : Option ℤ} → v ≡ first_refusal (uncounted ∷ unsized ∷ full ∷ beyond ∷ [])
+        → v ≡ first_refusal (cre_mpf_refusals k attribute count size)
     unfolding cre_mpf_refusals
     after-attribute f = attribute-later pool_attributes attribute b-is a-is allowed-is (uncounted ∷ unsized ∷ full ∷ beyond ∷ []) fine f
 
-    pub create-count : few ≡ true → Refused E_PAR ≡ verdict (first_refusal (cre_mpf_refusals k attribute count size))
+    pub create-count : few ≡ true → some E_PAR ≡ first_refusal (cre_mpf_refusals k attribute count size)
     create-count e = after-attribute (field-refused (pos 1) (pos blocks) count c-is few-is (unsized ∷ full ∷ beyond ∷ []) e)
 
     module _ (counted : few ≡ false) {d : ℤ} (d-is : d ≡ size) {wide : Bool} (wide_is : wide ≡ outside (pos 1) (pos block_bytes) d) where
-      after-count : {v : Verdict} → v ≡ verdict (first_refusal (unsized ∷ full ∷ beyond ∷ []))
-          → v ≡ verdict (first_refusal (cre_mpf_refusals k attribute count size))
+      after-count : {v : Option ℤ} → v ≡ first_refusal (unsized ∷ full ∷ beyond ∷ [])
+          → v ≡ first_refusal (cre_mpf_refusals k attribute count size)
       after-count f = after-attribute (field-later (pos 1) (pos blocks) count c-is few-is (unsized ∷ full ∷ beyond ∷ []) counted f)
 
-      pub create-size : wide ≡ true → Refused E_PAR ≡ verdict (first_refusal (cre_mpf_refusals k attribute count size))
+      pub create-size : wide ≡ true → some E_PAR ≡ first_refusal (cre_mpf_refusals k attribute count size)
       create-size e = after-count (field-refused (pos 1) (pos block_bytes) size d-is wide_is (full ∷ beyond ∷ []) e)
 
       module _ (sized : wide ≡ false) {found : Option PoolNumber} (from : found ≡ maybe_pool (unused k.pools.exists pools)) where
-        after-size : {v : Verdict} → v ≡ verdict (first_refusal (full ∷ beyond ∷ []))
-            → v ≡ verdict (first_refusal (cre_mpf_refusals k attribute count size))
+        after-size : {v : Option ℤ} → v ≡ first_refusal (full ∷ beyond ∷ [])
+            → v ≡ first_refusal (cre_mpf_refusals k attribute count size)
         after-size f = after-count (field-later (pos 1) (pos block_bytes) size d-is wide_is (full ∷ beyond ∷ []) sized f)
 
-        pub create-full : found ≡ None → Refused E_LIMIT ≡ verdict (first_refusal (cre_mpf_refusals k attribute count size))
+        pub create-full : found ≡ None → some E_LIMIT ≡ first_refusal (cre_mpf_refusals k attribute count size)
         create-full e = after-size (full-refused pool_kind k.pools.exists from (beyond ∷ []) e)
 
         module _ {p : PoolNumber} (some : found ≡ Some p) {more : ℕ} (more-is : more ≡ number c * number d) {above : Bool}
@@ -63,10 +61,10 @@ module _ (k : Kernel) (attribute count size : ℤ) {b : ℤ} (b-is : b ≡ attri
           asked : ltb pool_bytes (pool_sum k + number count * number size) ≡ above
           asked = cc
 
-          pub create-beyond : above ≡ true → Refused E_NOMEM ≡ verdict (first_refusal (cre_mpf_refusals k attribute count size))
+          pub create-beyond : above ≡ true → some E_NOMEM ≡ first_refusal (cre_mpf_refusals k attribute count size)
           create-beyond e = after-size (unused-later pool_kind k.pools.exists from (beyond ∷ []) some (refused-here beyond [] (asked ∙ e)))
 
-          pub create-allowed : above ≡ false → Allowed ≡ verdict (first_refusal (cre_mpf_refusals k attribute count size))
+          pub create-allowed : above ≡ false → none ≡ first_refusal (cre_mpf_refusals k attribute count size)
           create-allowed e = after-size (unused-later pool_kind k.pools.exists from (beyond ∷ []) some (refused-later beyond [] (asked ∙ e) refl))
 
 -- and what it does

@@ -9,9 +9,7 @@ use Rattle.state.specs.Words.{Represents}
 use Rattle.script.specs.Place.{Appends}
 use Rattle.script.proofs.Appending.{wrote, wrote-more}
 use Rattle.act.specs.Held.{DoesInWords}
-use Rattle.reply.specs.declared.Verdict.{Verdict}
-use Rattle.reply.specs.declared.Verdict.TheVariants.{Allowed, Refused}
-use Rattle.reply.specs.Replies.{verdict, CarriesInWords}
+use Rattle.reply.specs.Replies.{CarriesInWords}
 use Rattle.reply.proofs.Refusing.{numbered, never-unnumbered, number-refused, missing-refused, there-later}
 use Rattle.reply.proofs.Replying.{changes-kernel, answer-alone, carried-in-words, in-words-as}
 use Rattle.reply.proofs.Conditions.{timeout-refused, timeout-later, time-refused, time-later}
@@ -23,7 +21,7 @@ module _ (k : Kernel) (pool timeout : ℤ) {u : ℤ} (u-is : u ≡ timeout) {sho
   abbrev named : List Refusal
   named = bad_number pools pool ∷ no_such k.pools.exists pool ∷ late ∷ []
 
-  pub get-timeout : short ≡ true → Refused E_PAR ≡ verdict (first_refusal (get_mpf_refusals k pool timeout))
+  pub get-timeout : short ≡ true → some E_PAR ≡ first_refusal (get_mpf_refusals k pool timeout)
   unfolding get_mpf_refusals
   get-timeout e = timeout-refused timeout u-is short-is named e
 
@@ -31,28 +29,28 @@ module _ (k : Kernel) (pool timeout : ℤ) {u : ℤ} (u-is : u ≡ timeout) {sho
     made : found ≡ maybe_pool (field_number pool pools)
     made = rw b-is at from
 
-    after-timeout : {v : Verdict} → v ≡ verdict (first_refusal named) → v ≡ verdict (first_refusal (get_mpf_refusals k pool timeout))
+    after-timeout : {v : Option ℤ} → v ≡ first_refusal named → v ≡ first_refusal (get_mpf_refusals k pool timeout)
     unfolding get_mpf_refusals
     after-timeout f = timeout-later timeout u-is short-is named long f
 
-    pub get-numberless : found ≡ None → Refused E_ID ≡ verdict (first_refusal (get_mpf_refusals k pool timeout))
+    pub get-numberless : found ≡ None → some E_ID ≡ first_refusal (get_mpf_refusals k pool timeout)
     get-numberless e = after-timeout (number-refused pool_kind pool made (no_such k.pools.exists pool ∷ late ∷ []) e)
 
     module _ {p : PoolNumber} (some : found ≡ Some p) {x : ℕ} (x-is : x ≡ k.pools.exists ! p.0) where
-      pub get-missing : x ≡ 0 → Refused E_NOEXS ≡ verdict (first_refusal (get_mpf_refusals k pool timeout))
+      pub get-missing : x ≡ 0 → some E_NOEXS ≡ first_refusal (get_mpf_refusals k pool timeout)
       get-missing e = after-timeout (missing-refused pool_kind pool made k.pools.exists (late ∷ []) some x-is e)
 
       module _ (there : x ≢ 0) {block : ℕ} (block-is : block ≡ free_block k p.0) {r : Bool} (r-is : r ≡ (no_time u (eqb block 0)).applies) where
         waits-is : eqb block 0 ≡ eqb (free_block k (number pool)) 0
         waits-is = rw ((numbered pool_kind pool made some).1, block-is)
 
-        lately : {v : Verdict} → v ≡ verdict (first_refusal (late ∷ [])) → v ≡ verdict (first_refusal (get_mpf_refusals k pool timeout))
+        lately : {v : Option ℤ} → v ≡ first_refusal (late ∷ []) → v ≡ first_refusal (get_mpf_refusals k pool timeout)
         lately f = after-timeout (there-later pool_kind pool made k.pools.exists (late ∷ []) some x-is there f)
 
-        pub get-late : r ≡ true → Refused E_TMOUT ≡ verdict (first_refusal (get_mpf_refusals k pool timeout))
+        pub get-late : r ≡ true → some E_TMOUT ≡ first_refusal (get_mpf_refusals k pool timeout)
         get-late e = lately (time-refused timeout (eqb (free_block k (number pool)) 0) u-is waits-is r-is [] e)
 
-        pub get-allowed : r ≡ false → Allowed ≡ verdict (first_refusal (get_mpf_refusals k pool timeout))
+        pub get-allowed : r ≡ false → none ≡ first_refusal (get_mpf_refusals k pool timeout)
         get-allowed e = lately (time-later timeout (eqb (free_block k (number pool)) 0) u-is waits-is r-is [] e refl)
 
 -- and what it does

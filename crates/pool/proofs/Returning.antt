@@ -9,8 +9,7 @@ use Rattle.state.specs.Words.{Represents}
 use Rattle.script.specs.Place.{Appends}
 use Rattle.act.specs.Held.{areas, DoesInLog}
 use Rattle.act.proofs.Doing.{world, does, with-kernel}
-use Rattle.reply.specs.declared.Verdict.TheVariants.{Allowed, Refused}
-use Rattle.reply.specs.Replies.{verdict, CarriesInLog}
+use Rattle.reply.specs.Replies.{CarriesInLog}
 use Rattle.reply.proofs.Refusing.{refused-here, refused-later, numbered, never-unnumbered, number-refused, missing-refused, there-later}
 use Rattle.reply.proofs.Replying.{answer-alone, carried-in-log}
 
@@ -21,12 +20,12 @@ module _ (k : Kernel) (pool block : ℤ) {b : ℤ} (b-is : b ≡ pool) {found : 
   abbrev kept : Refusal
   kept = refuse 7 E_PAR (not (handed_out k (number pool) block))
 
-  pub return-numberless : found ≡ None → Refused E_ID ≡ verdict (first_refusal (rel_mpf_refusals k pool block))
+  pub return-numberless : found ≡ None → some E_ID ≡ first_refusal (rel_mpf_refusals k pool block)
   unfolding rel_mpf_refusals
   return-numberless e = number-refused pool_kind pool made (no_such k.pools.exists pool ∷ kept ∷ []) e
 
   module _ {p : PoolNumber} (some : found ≡ Some p) {x : ℕ} (x-is : x ≡ k.pools.exists ! p.0) where
-    pub return-missing : x ≡ 0 → Refused E_NOEXS ≡ verdict (first_refusal (rel_mpf_refusals k pool block))
+    pub return-missing : x ≡ 0 → some E_NOEXS ≡ first_refusal (rel_mpf_refusals k pool block)
     unfolding rel_mpf_refusals
     return-missing e = missing-refused pool_kind pool made k.pools.exists (kept ∷ []) some x-is e
 
@@ -34,11 +33,11 @@ module _ (k : Kernel) (pool block : ℤ) {b : ℤ} (b-is : b ≡ pool) {found : 
       kept-is : kept.applies ≡ not out
       kept-is = rw ((numbered pool_kind pool made some).1, ← c-is, out-is)
 
-      pub return_kept : not out ≡ true → Refused E_PAR ≡ verdict (first_refusal (rel_mpf_refusals k pool block))
+      pub return_kept : not out ≡ true → some E_PAR ≡ first_refusal (rel_mpf_refusals k pool block)
       unfolding rel_mpf_refusals
       return_kept e = there-later pool_kind pool made k.pools.exists (kept ∷ []) some x-is there (refused-here kept [] (kept-is ∙ e))
 
-      pub return-allowed : not out ≡ false → Allowed ≡ verdict (first_refusal (rel_mpf_refusals k pool block))
+      pub return-allowed : not out ≡ false → none ≡ first_refusal (rel_mpf_refusals k pool block)
       unfolding rel_mpf_refusals
       return-allowed e = there-later pool_kind pool made k.pools.exists (kept ∷ []) some x-is there (refused-later kept [] (kept-is ∙ e) refl)
 

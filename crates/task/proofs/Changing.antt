@@ -8,9 +8,7 @@ use Rattle.model.proofs.RefusalLaws.{none-applies, in-range-from-zero}
 use Rattle.queue.proofs.Members.{running-stood}
 use Rattle.state.specs.Words.{Represents}
 use Rattle.script.specs.Place.{Appends}
-use Rattle.reply.specs.declared.Verdict.{Verdict}
-use Rattle.reply.specs.declared.Verdict.TheVariants.{Allowed, Refused}
-use Rattle.reply.specs.Replies.{verdict, CarriesInWords}
+use Rattle.reply.specs.Replies.{CarriesInWords}
 use Rattle.reply.proofs.Refusing.{refused-here, refused-later}
 use Rattle.reply.proofs.Replying.{answer-alone, carried-in-words, in-words-as, changes-kernel}
 use Rattle.reply.proofs.Conditions.{field-refused, field-later}
@@ -69,29 +67,29 @@ module _ (k : Kernel) (task priority : ℤ) where
   above = refuse 8 E_ILUSE (any (above_ceiling k (chosen_base k (chosen_task k task) priority) (chosen_task k task)) (up_to mutexes))
 
   module _ {b : ℤ} (b-is : b ≡ priority) {r : Bool} (r-is : r ≡ outside (pos 0) (pos priorities) b) where
-    pub change-outside : r ≡ true → Refused E_PAR ≡ verdict (first_refusal (chg_pri_refusals k task priority))
+    pub change-outside : r ≡ true → some E_PAR ≡ first_refusal (chg_pri_refusals k task priority)
     unfolding chg_pri_refusals
     change-outside e = field-refused (pos 0) (pos priorities) priority b-is r-is (numberless ∷ missing ∷ above ∷ []) e
 
     module _ (inside : r ≡ false) {a : ℤ} (a-is : a ≡ task) {q : Bool} (q-is : q ≡ outside (pos 0) (pos tasks) a) where
-      after-range : {v : Verdict} → v ≡ verdict (first_refusal (numberless ∷ missing ∷ above ∷ []))
-          → v ≡ verdict (first_refusal (chg_pri_refusals k task priority))
+      after-range : {v : Option ℤ} → v ≡ first_refusal (numberless ∷ missing ∷ above ∷ [])
+          → v ≡ first_refusal (chg_pri_refusals k task priority)
       unfolding chg_pri_refusals
       after-range f = field-later (pos 0) (pos priorities) priority b-is r-is (numberless ∷ missing ∷ above ∷ []) inside f
 
-      pub change-numberless : q ≡ true → Refused E_ID ≡ verdict (first_refusal (chg_pri_refusals k task priority))
+      pub change-numberless : q ≡ true → some E_ID ≡ first_refusal (chg_pri_refusals k task priority)
       change-numberless e = after-range (refused-here numberless (missing ∷ above ∷ []) (rw a-is at (sym q-is ∙ e)))
 
       module _ (numbered : q ≡ false) where
-        later : {v : Verdict} → v ≡ verdict (first_refusal (missing ∷ above ∷ [])) → v ≡ verdict (first_refusal (chg_pri_refusals k task priority))
+        later : {v : Option ℤ} → v ≡ first_refusal (missing ∷ above ∷ []) → v ≡ first_refusal (chg_pri_refusals k task priority)
         later f = after-range (refused-later numberless (missing ∷ above ∷ []) (rw a-is at (sym q-is ∙ numbered)) f)
 
         module _ {found : Option TaskNumber} (from : found ≡ maybe_task (word_number (chosen_task k a) tasks)) where
           made : found ≡ maybe_task (word_number (chosen_task k task) tasks)
           made = rw a-is at from
 
-          pub change-never : {v : Verdict} {caller : ℕ} → caller ≡ running k → 1 ≤ caller → found ≡ None
-              → v ≡ verdict (first_refusal (chg_pri_refusals k task priority))
+          pub change-never : {v : Option ℤ} {caller : ℕ} → caller ≡ running k → 1 ≤ caller → found ≡ None
+              → v ≡ first_refusal (chg_pri_refusals k task priority)
           change-never runs low e =
               absurd (chosen-some k task (λ z. let n = runs ∙ z in omega arith) made (rw a-is at (sym q-is ∙ numbered)) e)
 
@@ -99,7 +97,7 @@ module _ (k : Kernel) (task priority : ℤ) where
             is-task : chosen_task k task ≡ t.0
             is-task = sym (named task_kind made some).0
 
-            pub change-missing : x ≡ absent → Refused E_NOEXS ≡ verdict (first_refusal (chg_pri_refusals k task priority))
+            pub change-missing : x ≡ absent → some E_NOEXS ≡ first_refusal (chg_pri_refusals k task priority)
             change-missing e = later (refused-here missing (above ∷ []) (rw is-task (eq-eqb (k.tasks.place ! t.0) absent (sym x-is ∙ e))))
 
             module _ (there : x ≢ absent) {base : ℕ} {o : Bool} (base-is : base ≡ chosen_base k t.0 b)
@@ -110,11 +108,11 @@ module _ (k : Kernel) (task priority : ℤ) where
               present : missing.applies ≡ false
               present = rw is-task (ne_eqb (k.tasks.place ! t.0) absent (λ p. there (x-is ∙ p)))
 
-              pub change-above : o ≡ true → Refused E_ILUSE ≡ verdict (first_refusal (chg_pri_refusals k task priority))
+              pub change-above : o ≡ true → some E_ILUSE ≡ first_refusal (chg_pri_refusals k task priority)
               change-above e =
                   later (refused-later missing (above ∷ []) present (refused-here above [] (above-is ∙ e)))
 
-              pub change-allowed : o ≡ false → Allowed ≡ verdict (first_refusal (chg_pri_refusals k task priority))
+              pub change-allowed : o ≡ false → none ≡ first_refusal (chg_pri_refusals k task priority)
               change-allowed e =
                   later (refused-later missing (above ∷ []) present (refused-later above [] (above-is ∙ e) refl))
 

@@ -7,8 +7,7 @@ use Rattle.model.specs.declared.call.Answer.TheVariants.{Code}
 use Rattle.model.proofs.NumberLaws.{task_kind}
 use Rattle.state.specs.Words.{Represents}
 use Rattle.script.specs.Place.{Appends}
-use Rattle.reply.specs.declared.Verdict.TheVariants.{Allowed, Refused}
-use Rattle.reply.specs.Replies.{verdict, CarriesInWords}
+use Rattle.reply.specs.Replies.{CarriesInWords}
 use Rattle.reply.proofs.Refusing.{refused-here, refused-later, numbered, never-unnumbered, number-refused, missing-refused, there-later}
 use Rattle.reply.proofs.Replying.{answer-alone, carried-in-words, changes-kernel}
 use Rattle.reply.proofs.Conditions.{field-refused, field-later}
@@ -21,17 +20,17 @@ module _ (k : Kernel) (priority : ℤ) {b : ℤ} (b-is : b ≡ priority) {r : Bo
   abbrev full : Refusal
   full = none_free k.tasks.place tasks
 
-  pub create-outside : r ≡ true → Refused E_PAR ≡ verdict (first_refusal (cre_tsk_refusals k priority))
+  pub create-outside : r ≡ true → some E_PAR ≡ first_refusal (cre_tsk_refusals k priority)
   unfolding cre_tsk_refusals
   create-outside e = field-refused (pos 1) (pos priorities) priority b-is r-is (full ∷ []) e
 
   module _ (inside : r ≡ false) {found : Option TaskNumber} (made : found ≡ maybe_task (unused k.tasks.place tasks)) where
-    pub create-full : found ≡ None → Refused E_LIMIT ≡ verdict (first_refusal (cre_tsk_refusals k priority))
+    pub create-full : found ≡ None → some E_LIMIT ≡ first_refusal (cre_tsk_refusals k priority)
     unfolding cre_tsk_refusals
     create-full e =
         field-later (pos 1) (pos priorities) priority b-is r-is (full ∷ []) inside (full-refused task_kind k.tasks.place made [] e)
 
-    pub create-allowed : {t : TaskNumber} → found ≡ Some t → Allowed ≡ verdict (first_refusal (cre_tsk_refusals k priority))
+    pub create-allowed : {t : TaskNumber} → found ≡ Some t → none ≡ first_refusal (cre_tsk_refusals k priority)
     unfolding cre_tsk_refusals
     create-allowed e =
         field-later (pos 1) (pos priorities) priority b-is r-is (full ∷ []) inside (unused-later task_kind k.tasks.place made [] e refl)
@@ -58,12 +57,12 @@ module _ (k : Kernel) (task : ℤ) {b : ℤ} (b-is : b ≡ task) {found : Option
   abbrev awake : Refusal
   awake = refuse 8 E_OBJ (not (eqb (k.tasks.place ! number task) dormant))
 
-  pub dormant-numberless : found ≡ None → Refused E_ID ≡ verdict (first_refusal (dormant_refusals k task))
+  pub dormant-numberless : found ≡ None → some E_ID ≡ first_refusal (dormant_refusals k task)
   unfolding dormant_refusals
   dormant-numberless e = number-refused task_kind task made (no_such k.tasks.place task ∷ awake ∷ []) e
 
   module _ {t : TaskNumber} (some : found ≡ Some t) {x : ℕ} (x-is : x ≡ k.tasks.place ! t.0) where
-    pub dormant-missing : x ≡ 0 → Refused E_NOEXS ≡ verdict (first_refusal (dormant_refusals k task))
+    pub dormant-missing : x ≡ 0 → some E_NOEXS ≡ first_refusal (dormant_refusals k task)
     unfolding dormant_refusals
     dormant-missing e = missing-refused task_kind task made k.tasks.place (awake ∷ []) some x-is e
 
@@ -71,13 +70,13 @@ module _ (k : Kernel) (task : ℤ) {b : ℤ} (b-is : b ≡ task) {found : Option
       is-task : number task ≡ t.0
       is-task = (numbered task_kind task made some).1
 
-      pub dormant-awake : x ≢ dormant → Refused E_OBJ ≡ verdict (first_refusal (dormant_refusals k task))
+      pub dormant-awake : x ≢ dormant → some E_OBJ ≡ first_refusal (dormant_refusals k task)
       unfolding dormant_refusals
       dormant-awake e =
           there-later task_kind task made k.tasks.place (awake ∷ []) some x-is there
           (refused-here awake [] (rw (is-task, ne_eqb (k.tasks.place ! t.0) dormant (λ q. e (x-is ∙ q)))))
 
-      pub dormant-allowed : x ≡ dormant → Allowed ≡ verdict (first_refusal (dormant_refusals k task))
+      pub dormant-allowed : x ≡ dormant → none ≡ first_refusal (dormant_refusals k task)
       unfolding dormant_refusals
       dormant-allowed e =
           there-later task_kind task made k.tasks.place (awake ∷ []) some x-is there

@@ -6,8 +6,7 @@ use Rattle.model.specs.declared.call.Answer.TheVariants.{Code, Exits}
 use Rattle.model.proofs.NumberLaws.{task_kind}
 use Rattle.script.specs.Place.{Appends}
 use Rattle.act.specs.Held.{DoesInLog}
-use Rattle.reply.specs.declared.Verdict.TheVariants.{Allowed, Refused}
-use Rattle.reply.specs.Replies.{verdict, CarriesInLog}
+use Rattle.reply.specs.Replies.{CarriesInLog}
 use Rattle.reply.proofs.Refusing.{refused-here, refused-later, numbered, never-unnumbered, number-refused, missing-refused, there-later}
 use Rattle.reply.proofs.Replying.{answer-alone, carried-in-log, in-log-as}
 
@@ -18,12 +17,12 @@ module _ (k : Kernel) (task : ℤ) {b : ℤ} (b-is : b ≡ task) {found : Option
   abbrev asleep : Refusal
   asleep = refuse 8 E_OBJ (eqb (k.tasks.place ! number task) dormant || eqb (number task) (running k))
 
-  pub end-numberless : found ≡ None → Refused E_ID ≡ verdict (first_refusal (ter_tsk_refusals k task))
+  pub end-numberless : found ≡ None → some E_ID ≡ first_refusal (ter_tsk_refusals k task)
   unfolding ter_tsk_refusals
   end-numberless e = number-refused task_kind task made (no_such k.tasks.place task ∷ asleep ∷ []) e
 
   module _ {t : TaskNumber} (some : found ≡ Some t) {x : ℕ} (x-is : x ≡ k.tasks.place ! t.0) where
-    pub end-missing : x ≡ 0 → Refused E_NOEXS ≡ verdict (first_refusal (ter_tsk_refusals k task))
+    pub end-missing : x ≡ 0 → some E_NOEXS ≡ first_refusal (ter_tsk_refusals k task)
     unfolding ter_tsk_refusals
     end-missing e = missing-refused task_kind task made k.tasks.place (asleep ∷ []) some x-is e
 
@@ -31,12 +30,12 @@ module _ (k : Kernel) (task : ℤ) {b : ℤ} (b-is : b ≡ task) {found : Option
       applies : asleep.applies ≡ eqb x dormant || eqb u v
       applies = rw ((numbered task_kind task made some).1, ← x-is, ← runs, ← v-is, ← u-is)
 
-      pub end-asleep : eqb x dormant || eqb u v ≡ true → Refused E_OBJ ≡ verdict (first_refusal (ter_tsk_refusals k task))
+      pub end-asleep : eqb x dormant || eqb u v ≡ true → some E_OBJ ≡ first_refusal (ter_tsk_refusals k task)
       unfolding ter_tsk_refusals
       end-asleep e =
           there-later task_kind task made k.tasks.place (asleep ∷ []) some x-is there (refused-here asleep [] (applies ∙ e))
 
-      pub end-allowed : eqb x dormant || eqb u v ≡ false → Allowed ≡ verdict (first_refusal (ter_tsk_refusals k task))
+      pub end-allowed : eqb x dormant || eqb u v ≡ false → none ≡ first_refusal (ter_tsk_refusals k task)
       unfolding ter_tsk_refusals
       end-allowed e =
           there-later task_kind task made k.tasks.place (asleep ∷ []) some x-is there (refused-later asleep [] (applies ∙ e) refl)

@@ -18,7 +18,7 @@ loop-n-preserved c =
     let i = c.loop-n.invariant in
     let k = c.tick_numbered-next.auto in (
       in-log-more _ (counted tasks c.loop-n.n (search rules)) i.0
-          k.state k.outbox k.log c.tick_numbered-next.ensures,
+          (long _ c.tick_numbered-next.array_long ∙ sym i.0.words) k.outbox k.log c.tick_numbered-next.ensures,
       search rules,
     )
 
