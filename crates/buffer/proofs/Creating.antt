@@ -65,7 +65,7 @@ module _ (k : Kernel) (attribute bufsz maxmsz : ℤ) {b : ℤ} (b-is : b ≡ att
           pub create-beyond : lt_z (pos region_bytes) s ≡ true → Answers (some E_NOMEM)
           create-beyond e = after-size (unused-later buffer_kind k.buffers.exists made (beyond ∷ []) is-some (refused-here beyond [] (rw s-is at e)))
 
-          pub create-allowed : lt_z (pos region_bytes) s ≡ false → Answers Allowed
+          pub create-allowed : lt_z (pos region_bytes) s ≡ false → Answers none
           create-allowed e = after-size (unused-later buffer_kind k.buffers.exists made (beyond ∷ []) is-some (refused-later beyond [] (rw s-is at e) refl))
 
 -- and what it does

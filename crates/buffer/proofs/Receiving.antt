@@ -76,7 +76,7 @@ module _ (k : Kernel) (buffer timeout : ℤ) where
           pub receive-late : u ≡ true → Answers (some E_TMOUT)
           receive-late e = lately (time-refused timeout (receive_waits k (number buffer)) a-is waits-is u-is [] e)
 
-          pub receive-allowed : u ≡ false → Answers Allowed
+          pub receive-allowed : u ≡ false → Answers none
           receive-allowed e = lately (time-later timeout (receive_waits k (number buffer)) a-is waits-is u-is [] e refl)
 
 -- ---- what it does, by case

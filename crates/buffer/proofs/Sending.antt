@@ -156,7 +156,7 @@ module _ (k : Kernel) (buffer msgsz timeout : ℤ) (bytes : List ℕ) where
               pub send-late : u ≡ true → Answers (some E_TMOUT)
               send-late e = lately (time-refused timeout (send_waits k (number buffer) (number msgsz)) a-is waits-is u-is [] e)
 
-              pub send-allowed : u ≡ false → Answers Allowed
+              pub send-allowed : u ≡ false → Answers none
               send-allowed e = lately (time-later timeout (send_waits k (number buffer) (number msgsz)) a-is waits-is u-is [] e refl)
 
 -- ---- each branch
