@@ -154,11 +154,11 @@ module _ (k : Kernel) (c : Call) (bytes : List ℕ) {caller : code.Option TaskNu
       go (inl e) = absurd (true≢false (sym (ap is_tick e) ∙ n))
       go (inr m) = rw m.first (refused-here (nobody_runs k) (rest (refusals k c bytes)) nobody-runs)
 
-  pub nobody-free : is_tick c ≡ true → Free ≡ first_refusal (refusals k c bytes)
+  pub nobody-free : is_tick c ≡ true → none ≡ first_refusal (refusals k c bytes)
   unfolding refusals
   nobody-free y = go (tick-or-made k c bytes)
     where
-      go : (c ≡ Tick) ⊎ Made k c bytes → Free ≡ first_refusal (refusals k c bytes)
+      go : (c ≡ Tick) ⊎ Made k c bytes → none ≡ first_refusal (refusals k c bytes)
       go (inl e) = rw e
       go (inr m) = absurd (true≢false (sym y ∙ m.not-tick))
 
