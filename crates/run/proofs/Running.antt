@@ -1,5 +1,5 @@
 -- A script at a place, in the order of the code's steps. Assumes nothing.
-use Rattle.std.specs.Prelude.{Result}
+use Rattle.std.specs.Prelude.{Result, Ok, Err}
 use Rattle.model.specs.declared.call.Record.{Record}
 use Rattle.model.specs.declared.call.Stop.{Stop}
 use Prim.Native.Nat.{ℕ, suc, ◌+◌, ◌≤◌, ◌<◌}
@@ -26,16 +26,20 @@ use Rattle.call.specs.declared.Called.{Called}
 use Rattle.call.specs.Calls.{called}
 use Rattle.run.specs.Runs.{ran, is_over}
 
+abbrev offset_in : Result Record Stop → ℕ
+offset_in (Ok r) = 0
+offset_in (Err stop) = stop.offset
+
 -- a script stops where the record begins
 stop-here : (at o : ℕ) (bytes : List ℕ) → read_here at bytes ≡ stopped o → o ≡ at
 unfolding read_here
-stop-here at o [] e = cc
+stop-here at o [] e = sym (ap offset_in e)
 stop-here at o (kind ∷ body) e = known (row_of kind) e
   where
     cut : (r : Row) (b : Bool) → ◌≡◌ {A = Result Record Stop} (elim b [ true ↦ found (r.call (field body)) (record { at = suc (at + r.body) }) | false ↦ stopped at ]) (stopped o)
         → o ≡ at
     cut r true e = absurd (let z : ◌≡◌ {A = ℕ} 0 1 = cc in omega arith)
-    cut r false e = cc
+    cut r false e = sym (ap offset_in e)
 
     known : (row : Option Row)
         → ◌≡◌ {A = Result Record Stop} (elim row [
@@ -44,7 +48,7 @@ stop-here at o (kind ∷ body) e = known (row_of kind) e
               elim (leb r.body (length body))
               [ true ↦ found (r.call (field body)) (record { at = suc (at + r.body) }) | false ↦ stopped at ]
         ]) (stopped o) → o ≡ at
-    known none e = cc
+    known none e = sym (ap offset_in e)
     known (some r) e = cut r (leb r.body (length body)) e
 
 pub stop-offset : (script : List ℕ) (at : ℕ) {o : ℕ} → read_record script at ≡ stopped o → o ≡ at
