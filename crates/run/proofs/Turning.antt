@@ -3,7 +3,9 @@ use Prim.Native.Nat.{ℕ, zero, suc, ◌+◌, ◌≤◌, ◌<◌}
 use native.Mathlib.Omega.{arith}
 use mathlib.Core.Path.{◌≡◌, ◌∙◌, refl, sym, ap}
 use mathlib.Core.Logic.{◌≢◌}
-use mathlib.Core.Bool.{Bool, true, false}
+use mathlib.Core.Bool.{Bool, true, false, false≢true}
+use Rattle.std.specs.Prelude.{Result, Ok, Err, IsErr, is_ok}
+use Rattle.run.specs.declared.turn.Unwritten.{Unwritten}
 use mathlib.Core.List.{List}
 use Rattle.model.specs.declared.call.Cursor.{Cursor}
 use Rattle.model.specs.declared.call.Progress.{Progress}
@@ -99,6 +101,11 @@ module _ (a₀ : Areas) (script : List ℕ) (a : Areas) (at turns : ℕ) (left :
           areas = h.areas ∙ sym (left 1 ∙ alone (lent_record a script at) script (lent_record a script at).progress refl);
           whole = λ w. absurd (let z : ◌≡◌ {A = ℕ} 0 1 = cc in omega arith);
         }
+
+    -- the same where the program answers by an error
+    pub cut-short : {e : Result Unit Unwritten} → IsErr e → RunsAll a₀ script b (is_ok e)
+    cut-short {e = Ok x} f = absurd (false≢true f)
+    cut-short {e = Err x} f = unwritten
 
   pub all_done : suc script_bytes ≤ turns → RunsAll a₀ script a true
   all_done enough =

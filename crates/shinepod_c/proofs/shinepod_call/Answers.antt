@@ -15,6 +15,6 @@ returns-in_default c = tells-unknown _ _ _ _ (unknown-row _ (sym c.body_length.e
 
 pub returns : goal.returns
 returns c =
-    tells-call _ c.args.kind _ _ (known-row _ _ (sym c.body_length.ensures ∙ c.in-Bytes.is))
+    tells-call _ c.args.kind _ _ (known-row _ _ (sym c.body_length.ensures ∙ c.in-Some.is))
     (c.call_of-call.ensures ∙ ap (call_in kinds c.args.kind) (same c.ranges.first c.ranges.second c.ranges.third))
     c.call-called.ensures c.outcome_of.ensures (to_z-of_z {w = w32} (search rules) ∙ c.code_of.ensures)
