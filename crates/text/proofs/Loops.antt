@@ -10,7 +10,7 @@ use Rattle.script.specs.Place.{Appends, Wrote}
 use Rattle.script.proofs.Appending.{wrote, wrote-more}
 use Rattle.text.specs.Names.{ascii}
 use Rattle.text.specs.Quoted.{shown_byte, trimmed, quoted}
-use Rattle.text.specs.Place.{word_value, letter, word_after, with_values}
+use Rattle.text.specs.Place.{letter, word_after, with_values}
 
 -- Whoever puts the rest here has put the whole there.
 abbrev pub Left : List ℕ → ℕ → List ℕ → List ℕ → ℕ → List ℕ → Type 0
@@ -28,11 +28,6 @@ module _ (template body : List ℕ) (word j : ℕ) where
       → Wrote line next (letter body word (get_or template j 0)) mid i → Left line₀ at (with_values body 0 template) mid i
       (with_values body (word_after word (get_or template j 0)) (drop (j + 1) template))
   more-letters h l p = rw (add-one) (left-more (rw (drop-cons template j 0 h) at l) p)
-
-  pub last-value : {line₀ line after : List ℕ} {at next n : ℕ} → length template ≤ j
-      → Left line₀ at (with_values body 0 template) line next (with_values body word (drop j template))
-      → Wrote line next (word_value body word) after n → Wrote line₀ at (with_values body 0 template) after n
-  last-value h l p = l _ _ (rw (drop_of_length-le template {i = j} h) p)
 
 pub word_on : (word : ℕ) {now c : ℕ} → c ≡ 32 → now ≡ word + 1 → now ≡ word_after word c
 word_on word {c = c} e s = rw (eq-eqb c 32 e) (s ∙ add-one word)

@@ -1,4 +1,4 @@
-// Numbers put at a place of a lent line.
+// Numbers put at a place of a lent line: the contracts name each byte, and the line is fixed memory, so there is no Display.
 ghost use Rattle.std.specs.Prelude.{◌<◌, ◌≡◌};
 ghost use Rattle.script.specs.Place.{Appends, Wrote};
 ghost use Rattle.text.specs.Numbers;
