@@ -1,4 +1,5 @@
 -- cre_mtx, in the order of the code's steps. Assumes nothing.
+use Rattle.std.proofs.Math.Option.{some}
 use Rattle.std.specs.Prelude.{None, Option, Some}
 use Rattle.model.proofs.Terms.{ℕ, ◌≡◌, ◌∙◌, refl, Bool, true, false, ◌&&◌, ◌||◌, not, none, cond, List, [], ◌∷◌, length, ℤ, pos, lt_z, eqb, priorities, mutexes, member, E_RSATR, E_PAR, E_LIMIT, number, ceilinged, Kernel, with_mutex_exists, with_mutex_attribute, with_ceiling, unused, Refusal, refuse, first_refusal, outside, mutex_attributes, none_free, cre_mtx_refusals, cre_mtx, kernel, word_count, answer_bytes}
 use Rattle.model.specs.Number.{maybe_mutex, MutexNumber}
@@ -59,8 +60,8 @@ pub creates-mutex : (attribute ceiling : ℤ) {b d : ℤ} → b ≡ attribute �
     → Represents s2 (with_mutex_attribute (kernel s1) m.0 a) → Represents s3 (with_ceiling (kernel s2) m.0 kept)
     → CarriesInWords caller (λ w. cre_mtx w (number attribute) ceiling) s log at s3 l1 (record { answer = answer; next = p })
 unfolding cre_mtx
-creates-mutex attribute ceiling b-is d-is caller h made some n-is answer-is l a-is kept-is x y z =
+creates-mutex attribute ceiling b-is d-is caller h made is-some n-is answer-is l a-is kept-is x y z =
     let kept = cond (eqb (number attribute) ceilinged) (number ceiling) 0 in
     creates mutex_kind (λ k. k.mutexes.exists)
-    (λ k n. with_ceiling (with_mutex_attribute (with_mutex_exists k n 1) n (number attribute)) n kept) caller h made some n-is answer-is l
+    (λ k n. with_ceiling (with_mutex_attribute (with_mutex_exists k n 1) n (number attribute)) n kept) caller h made is-some n-is answer-is l
     (record { length = z.length; kernel = cc })

@@ -1,5 +1,7 @@
 -- loc_mtx, in the order of the code's steps. Assumes nothing.
-use Rattle.std.specs.Prelude.{None, Option, Some}
+use Rattle.std.proofs.Math.Option.{some, Option}
+use Rattle.std.specs.Prelude as code
+use Rattle.std.specs.Prelude.{None, Some}
 use Rattle.model.proofs.Terms.{ℕ, ◌≤◌, arith, ◌≡◌, ◌∙◌, refl, sym, ap, ◌≢◌, Bool, true, false, ◌&&◌, not, none, List, [], ◌∷◌, length, ℤ, eqb, ltb, eq-eqb, ne_eqb, ◌!◌, tasks, mutexes, E_OK, E_PAR, E_ID, E_NOEXS, E_ILUSE, E_TMOUT, number, queue, locking, inherits, ceilinged, Kernel, with_holder, Nothing, with_kernel, running, recompute, settled, millis, wait, Refusal, refuse, first_refusal, bad_timeout, bad_number, no_such, no_time, lock_waits, loc_mtx_refusals, loc_mtx, kernel, word_count, answer_bytes, Each, Priorities, Bitmap, Locking}
 use Rattle.model.specs.Number.{field_number, maybe_mutex, MutexNumber}
 use Rattle.model.specs.declared.call.Answer.TheVariants.{Code, Waits}
@@ -52,7 +54,7 @@ module _ (k : Kernel) (mutex timeout : ℤ) {u : ℤ} (u-is : u ≡ timeout) {sh
   unfolding loc_mtx_refusals
   lock-timeout e = timeout-refused timeout u-is short-is named e
 
-  module _ (long : short ≡ false) {b : ℤ} (b-is : b ≡ mutex) {found : Option MutexNumber} (from : found ≡ maybe_mutex (field_number b mutexes)) where
+  module _ (long : short ≡ false) {b : ℤ} (b-is : b ≡ mutex) {found : code.Option MutexNumber} (from : found ≡ maybe_mutex (field_number b mutexes)) where
     made : found ≡ maybe_mutex (field_number mutex mutexes)
     made = rw b-is at from
 
@@ -61,20 +63,20 @@ module _ (k : Kernel) (mutex timeout : ℤ) {u : ℤ} (u-is : u ≡ timeout) {sh
     lock-numberless e =
         timeout-later timeout u-is short-is named long (number-refused mutex_kind mutex made (no_such k.mutexes.exists mutex ∷ rest) e)
 
-    module _ {m : MutexNumber} (some : found ≡ Some m) {x : ℕ} (x-is : x ≡ k.mutexes.exists ! m.0) where
+    module _ {m : MutexNumber} (is-some : found ≡ Some m) {x : ℕ} (x-is : x ≡ k.mutexes.exists ! m.0) where
       pub lock-missing : x ≡ 0 → some E_NOEXS ≡ first_refusal (loc_mtx_refusals k mutex timeout)
       unfolding loc_mtx_refusals
       lock-missing e =
-          timeout-later timeout u-is short-is named long (missing-refused mutex_kind mutex made k.mutexes.exists rest some x-is e)
+          timeout-later timeout u-is short-is named long (missing-refused mutex_kind mutex made k.mutexes.exists rest is-some x-is e)
 
       module _ (there : x ≢ 0) {h t caller : ℕ} (h-is : h ≡ k.mutexes.holder ! m.0) (t-is : t ≡ caller) (runs : caller ≡ running k) where
         is-mutex : number mutex ≡ m.0
-        is-mutex = (numbered mutex_kind mutex made some).1
+        is-mutex = (numbered mutex_kind mutex made is-some).1
 
         later : {v : Option ℤ} → v ≡ first_refusal rest → v ≡ first_refusal (loc_mtx_refusals k mutex timeout)
         unfolding loc_mtx_refusals
         later f =
-            timeout-later timeout u-is short-is named long (there-later mutex_kind mutex made k.mutexes.exists rest some x-is there f)
+            timeout-later timeout u-is short-is named long (there-later mutex_kind mutex made k.mutexes.exists rest is-some x-is there f)
 
         pub lock-held : h ≡ t → some E_ILUSE ≡ first_refusal (loc_mtx_refusals k mutex timeout)
         lock-held e =
@@ -134,7 +136,7 @@ module _ (s : List ℕ) (m t : ℕ) (timeout : ℤ) {n : ℕ} (n-is : n ≡ m) {
           (omega (arith, runs, f.high), λ (p : (kernel s).tasks.place ! t ≡ locking). omega (arith, sym p ∙ place))
 
 -- the call
-module _ (mutex timeout : ℤ) {b : ℤ} (b-is : b ≡ mutex) {found : Option MutexNumber} (from : found ≡ maybe_mutex (field_number b mutexes)) where
+module _ (mutex timeout : ℤ) {b : ℤ} (b-is : b ≡ mutex) {found : code.Option MutexNumber} (from : found ≡ maybe_mutex (field_number b mutexes)) where
   named-mutex : found ≡ maybe_mutex (field_number mutex mutexes)
   named-mutex = rw b-is at from
 
@@ -142,9 +144,9 @@ module _ (mutex timeout : ℤ) {b : ℤ} (b-is : b ≡ mutex) {found : Option Mu
   unfolding loc_mtx_refusals bad_number
   lock-named k e g = never-unnumbered mutex_kind mutex named-mutex (loc_mtx_refusals k mutex timeout) 1 e refl g
 
-  module _ {m : MutexNumber} (some : found ≡ Some m) where
+  module _ {m : MutexNumber} (is-some : found ≡ Some m) where
     number_is : number mutex ≡ m.0
-    number_is = (numbered mutex_kind mutex named-mutex some).1
+    number_is = (numbered mutex_kind mutex named-mutex is-some).1
 
     module _ {caller h : ℕ} {s log l1 : List ℕ} {at p : ℕ} (size : length s ≡ word_count) (runs : caller ≡ running (kernel s))
         (h-is : h ≡ (kernel s).mutexes.holder ! m.0) where

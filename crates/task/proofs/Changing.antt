@@ -1,5 +1,7 @@
 -- chg_pri, in the order of the code's steps.
-use Rattle.std.specs.Prelude.{None, Option, Some}
+use Rattle.std.proofs.Math.Option.{some, Option}
+use Rattle.std.specs.Prelude as code
+use Rattle.std.specs.Prelude.{None, Some}
 use Rattle.model.proofs.Terms.{ℕ, zero, suc, ◌≤◌, arith, ◌≡◌, ◌∙◌, refl, sym, ap, ◌≢◌, Bool, true, false, cond, none, List, [], ◌∷◌, length, ℤ, pos, eqb, eq-eqb, ne_eqb, tasks, priorities, mutexes, ◌!◌, up_to, any, E_OK, E_PAR, E_ID, E_ILUSE, E_NOEXS, number, absent, with_base, Kernel, running, recompute, Nothing, chosen_task, chosen_base, above_ceiling, chg_pri_refusals, Refusal, refuse, first_refusal, outside, rejoin, chg_pri, From, kernel, word_count, answer_bytes}
 use Rattle.model.specs.Number.{word_number, maybe_task, TaskNumber}
 use Rattle.model.specs.declared.call.Answer.TheVariants.{Code}
@@ -19,12 +21,12 @@ module _ (k : Kernel) (field : ℤ) {b : ℤ} (b-is : b ≡ field) {n : ℕ} (n-
   is_number : n ≡ number field
   is_number = n-is ∙ ap number b-is
 
-  pub task-caller : {u caller : ℕ} {found : Option TaskNumber} → n ≡ 0 → u ≡ caller → caller ≡ running k → found ≡ maybe_task (word_number u tasks)
+  pub task-caller : {u caller : ℕ} {found : code.Option TaskNumber} → n ≡ 0 → u ≡ caller → caller ≡ running k → found ≡ maybe_task (word_number u tasks)
       → found ≡ maybe_task (word_number (chosen_task k field) tasks)
   unfolding chosen_task
   task-caller z u-is runs e = e ∙ rw (eq-eqb (number field) 0 (sym is_number ∙ z), ← runs, ← u-is)
 
-  pub task-other : {found : Option TaskNumber} → n ≢ 0 → found ≡ maybe_task (word_number n tasks) → found ≡ maybe_task (word_number (chosen_task k field) tasks)
+  pub task-other : {found : code.Option TaskNumber} → n ≢ 0 → found ≡ maybe_task (word_number n tasks) → found ≡ maybe_task (word_number (chosen_task k field) tasks)
   unfolding chosen_task
   task-other z e = e ∙ rw (ne_eqb (number field) 0 (λ q. z (is_number ∙ q)), ← is_number)
 
@@ -46,7 +48,7 @@ module _ (k : Kernel) (task : ℤ) (runs : running k ≢ 0) where
       go zero h = let s = running-stood k runs in (s.low, s.high)
       go (suc n) h = rw (ne_eqb (suc n) 0 (λ z. absurd (omega arith))) (omega arith, h)
 
-  module _ {found : Option TaskNumber} (found-is : found ≡ maybe_task (word_number (chosen_task k task) tasks)) where
+  module _ {found : code.Option TaskNumber} (found-is : found ≡ maybe_task (word_number (chosen_task k task) tasks)) where
     pub chosen-some : outside (pos 0) (pos tasks) task ≡ false → found ≡ None → ⊥
     chosen-some inside e = let r = chosen-from inside in never-unnamed task_kind found-is r.0 r.1 e
 
@@ -84,7 +86,7 @@ module _ (k : Kernel) (task priority : ℤ) where
         later : {v : Option ℤ} → v ≡ first_refusal (missing ∷ above ∷ []) → v ≡ first_refusal (chg_pri_refusals k task priority)
         later f = after-range (refused-later numberless (missing ∷ above ∷ []) (rw a-is at (sym q-is ∙ numbered)) f)
 
-        module _ {found : Option TaskNumber} (from : found ≡ maybe_task (word_number (chosen_task k a) tasks)) where
+        module _ {found : code.Option TaskNumber} (from : found ≡ maybe_task (word_number (chosen_task k a) tasks)) where
           made : found ≡ maybe_task (word_number (chosen_task k task) tasks)
           made = rw a-is at from
 
@@ -93,9 +95,9 @@ module _ (k : Kernel) (task priority : ℤ) where
           change-never runs low e =
               absurd (chosen-some k task (λ z. let n = runs ∙ z in omega arith) made (rw a-is at (sym q-is ∙ numbered)) e)
 
-          module _ {t : TaskNumber} (some : found ≡ Some t) {x : ℕ} (x-is : x ≡ k.tasks.place ! t.0) where
+          module _ {t : TaskNumber} (is-some : found ≡ Some t) {x : ℕ} (x-is : x ≡ k.tasks.place ! t.0) where
             is-task : chosen_task k task ≡ t.0
-            is-task = sym (named task_kind made some).0
+            is-task = sym (named task_kind made is-some).0
 
             pub change-missing : x ≡ absent → some E_NOEXS ≡ first_refusal (chg_pri_refusals k task priority)
             change-missing e = later (refused-here missing (above ∷ []) (rw is-task (eq-eqb (k.tasks.place ! t.0) absent (sym x-is ∙ e))))
@@ -122,12 +124,12 @@ pub base-changed : (t base : ℕ) (s : List ℕ) {s1 s2 s' : List ℕ} → Repre
     → Represents s' (rejoin (kernel s2) t) → Represents s' (rejoin (recompute (with_base (kernel s) t base)) t)
 base-changed t base s a b c = record { length = c.length; kernel = c.kernel ∙ rw (b.kernel, a.kernel) }
 
-pub changes : (caller : ℕ) (task priority : ℤ) {s s' log l1 : List ℕ} {at next : ℕ} → length s ≡ word_count → {found : Option TaskNumber} {t : TaskNumber} {base : ℕ}
+pub changes : (caller : ℕ) (task priority : ℤ) {s s' log l1 : List ℕ} {at next : ℕ} → length s ≡ word_count → {found : code.Option TaskNumber} {t : TaskNumber} {base : ℕ}
     → found ≡ maybe_task (word_number (chosen_task (kernel s) task) tasks) → found ≡ Some t → base ≡ chosen_base (kernel s) t.0 priority
     → Represents s' (rejoin (recompute (with_base (kernel s) t.0 base)) t.0) → Appends log at (answer_bytes (Code E_OK)) l1 next
     → CarriesInWords caller (λ w. chg_pri w (chosen_task w.kernel task) priority) s log at s' l1 (record { answer = Code E_OK; next = next })
 unfolding chg_pri
-changes caller task priority h {t = t} {base} made some base-is r g =
-    in-words-as caller (λ store o. rw (sym (named task_kind made some).0, base-is))
+changes caller task priority h {t = t} {base} made is-some base-is r g =
+    in-words-as caller (λ store o. rw (sym (named task_kind made is-some).0, base-is))
     (carried-in-words caller (Code E_OK) Nothing _ h (answer-alone caller (Code E_OK) g)
     (changes-kernel (λ k. rejoin (recompute (with_base k t.0 base)) t.0) r))

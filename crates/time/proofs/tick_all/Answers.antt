@@ -1,5 +1,6 @@
 -- `tick_all` meets its contract: what is left are the tasks from the next one on. Assumes nothing.
 use native.Mathlib.Omega.{arith}
+use mathlib.Core.Path.{◌∙◌, sym}
 use borrow.Author.Rules.{rules}
 use Rattle.model.specs.Sizes.{tasks}
 use Rattle.time.proofs.Ticking.{ticking}
