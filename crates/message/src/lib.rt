@@ -1,7 +1,7 @@
 // Messages: how they lie in a buffer's region and in the outbox, and the next one to be received.
 #![tactic(auto)]
 
-pub mod copy;
+mod copy;
 pub mod next;
 pub mod outbox;
 mod part;

@@ -6,12 +6,12 @@ use mathlib.Core.Path.{◌≡◌, ◌∙◌, refl, sym, ap}
 use mathlib.Core.Bool.{Bool, true, false, ◌&&◌, cond, false≢true}
 use mathlib.Core.List.{List, [], ◌∷◌, ◌++◌, map}
 use lib.ListN.{length, take, drop, length-append, length-take}
-use lib.Seq.{take-paste, take-length, take-take}
+use lib.Seq.{take-paste, take-length}
 use lib.IntN.{ℤ, pos, negsuc}
 use Rattle.model.proofs.Terms.{leb, leb-true, eqb, ltb, all, joined, script_bytes, message_bytes, Option, none, some, ◌-◌, ◌!◌}
 use Rattle.model.proofs.ListLaws.{either}
 use Rattle.model.specs.Message.{over}
-use Rattle.model.specs.declared.kind.BodyLength.TheVariants.{Bytes, Unknown}
+use Rattle.std.specs.Prelude.{Some, None}
 use Rattle.model.specs.Record.{Row, row_of, body_length, field, message_here}
 use Rattle.script.specs.Place.{Wrote}
 use Rattle.script.proofs.Appending.{over-paste, placed-room, next-room, length_over}
@@ -51,18 +51,6 @@ named-all test (r ∷ rows) n e h =
 pub template-short : (kind : ℕ) → length (template kind) ≤ 32
 unfolding template
 template-short kind = leb-true (length (template kind)) 32 (named-all (λ t. leb (length t) 32) templates kind refl refl)
-
--- a front part of a line
-module _ {area text : List ℕ} {n k : ℕ} (l : IsFront area n text) (h : k ≤ length (take n area)) where
-  within : k ≤ n
-  within = omega (arith, length-take n area)
-
-  pub word-inside : k ≤ length area
-  word-inside = omega (arith, within, l.inside)
-
-pub word_of : {area text : List ℕ} {n k : ℕ} → IsFront area n text → take k (take n area) ≡ first_word (take n area) → k ≤ length (take n area)
-    → take k area ≡ first_word text
-word_of {area} {text} {n} {k} l e h = sym (take-take k n area (within l h)) ∙ e ∙ ap first_word l.bytes
 
 -- ---- how long the texts are
 
@@ -206,9 +194,9 @@ unfolding here_text call_text unknown_text cut_text hex_byte
 here-short [] = omega arith
 here-short (kind ∷ body) =
     elim (body_length kind) as (λ l. length {A =
-    ℕ} (elim l [ Unknown ↦ unknown_text kind | Bytes n ↦ cond (leb n (length body)) (call_text kind body) (cut_text kind n (length body)) ]) ≤ 224) [
-      | Unknown ↦ omega arith
-      | Bytes n ↦
+    ℕ} (elim l [ None ↦ unknown_text kind | Some n ↦ cond (leb n (length body)) (call_text kind body) (cut_text kind n (length body)) ]) ≤ 224) [
+      | None ↦ omega arith
+      | Some n ↦
           either (λ (t : List ℕ). length t ≤ 224) (leb n (length body))
           (let m = message_here (kind ∷ body) in
           omega (arith, length-append (with_values body 0 (template kind)) (message_text m), call-short body kind, message-short m (message-long (kind ∷ body))))

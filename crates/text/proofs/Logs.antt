@@ -1,10 +1,10 @@
 -- The text of a turn: a log's items one behind the other, and that all of it fits. Assumes nothing.
-use Prim.Native.Nat.{ℕ, zero, suc, ◌+◌, ◌-◌, ◌*◌, ◌≤◌, ◌<◌}
+use Prim.Native.Nat.{ℕ, zero, suc, ◌-◌, ◌*◌, ◌≤◌, ◌<◌, min}
+use native.Mathlib.Decide.{dec_le}
 use native.Mathlib.Omega.{arith}
-use mathlib.Core.Path.{◌≡◌, ◌∙◌, refl, sym, ap}
+use mathlib.Core.Path.{◌≡◌, ◌∙◌, sym, ap}
 use mathlib.Core.List.{List, [], ◌∷◌, ◌++◌}
 use lib.ListN.{length, get_or, take, drop, length-append, length-drop, drop_of_length-le}
-use lib.Seq.{drop-cons, drop-drop}
 use Rattle.model.proofs.Terms.{log_bytes}
 use Rattle.model.specs.declared.call.Progress.{Progress}
 use Rattle.model.specs.declared.call.Progress.TheVariants.{Answered, Over, NoArea}
@@ -27,32 +27,35 @@ first-item tag l =
     let behind = drop (item_bytes tag - 1) l in
     ap (λ (t : List ℕ). item_line (tag ∷ l) ++ t) (enough (length l) (length behind) behind (omega (arith, length-drop (item_bytes tag - 1) l)) (omega arith))
 
-module _ (log : List ℕ) (i : ℕ) where
-  abbrev tag : ℕ
-  tag = get_or log i 0
+item-here : (l : List ℕ) → 1 ≤ length l → log_text l ≡ item_line l ++ log_text (drop (item_bytes (get_or l 0 0)) l)
+item-here [] h = absurd (omega arith)
+item-here (tag ∷ l) h =
+    let far : suc (item_bytes tag - 1) ≡ item_bytes tag = omega (arith, (item-bytes tag).0) in
+    first-item tag l ∙ ap (λ (n : ℕ). item_line (tag ∷ l) ++ log_text (drop n (tag ∷ l))) far
 
-  item-here : i < length log → log_text (drop i log) ≡ item_line (drop i log) ++ log_text (drop (i + item_bytes tag) log)
-  item-here h =
-      let here : drop i log ≡ tag ∷ drop (suc i) log = drop-cons log i 0 h in
-      let far : suc i + (item_bytes tag - 1) ≡ i + item_bytes tag = omega (arith, (item-bytes tag).0) in
-      ap log_text here ∙ first-item tag (drop (suc i) log)
-      ∙ ap (λ (l : List ℕ). item_line l ++ log_text (drop (item_bytes tag - 1) (drop (suc i) log))) (sym here)
-      ∙ ap (λ (l : List ℕ). item_line (drop i log) ++ log_text l) (drop-drop (item_bytes tag - 1) (suc i) log ∙ ap (λ (n : ℕ). drop n log) far)
+-- the bytes behind an item, which may reach beyond the end
+behind : (l : List ℕ) (n k : ℕ) → k ≡ min n (length l) → take (length l - k) (drop k l) ≡ drop n l
+behind l n k e = rest l k ∙ go (dec_le n (length l))
+  where
+    go : Dec (n ≤ length l) → drop k l ≡ drop n l
+    go (yes h) =
+        let same : k ≡ n = omega arith in
+        rw same
+    go (no h) = drop_of_length-le l {i = k} (omega arith) ∙ sym (drop_of_length-le l {i = n} (omega arith))
 
-  pub more-items : {text₀ text mid : List ℕ} {at next k n : ℕ} → i < length log → n ≡ item_bytes tag → Left text₀ at (log_text log) text next (log_text (drop i log))
-      → Wrote text next (item_line (take (length log - i) (drop i log))) mid k → Left text₀ at (log_text log) mid k (log_text (drop (i + n) log))
-  more-items h e l p = rw e (left-more (rw (item-here h) at l) (rw (rest log i) at p))
+pub more-items : (l : List ℕ) {text₀ whole text mid : List ℕ} {at next i n k : ℕ} → 1 ≤ length l → n ≡ item_bytes (get_or l 0 0) → k ≡ min n (length l)
+    → Left text₀ at whole text next (log_text l) → Wrote text next (item_line l) mid i → Left text₀ at whole mid i (log_text (take (length l - k) (drop k l)))
+more-items l {n = n} {k = k} h e m left p = rw (behind l n k m, e) (left-more (rw (item-here l h) at left) p)
 
-  pub no-more-items : {text₀ text : List ℕ} {at next : ℕ} → length log ≤ i → Left text₀ at (log_text log) text next (log_text (drop i log))
-      → Wrote text₀ at (log_text log) text next
-  unfolding log_text
-  no-more-items {text = text} {next = next} h l = l text next (rw (drop_of_length-le log {i = i} h) (wrote (none text next)))
+pub fewer : (l : List ℕ) {n k : ℕ} → 1 ≤ length l → n ≡ item_bytes (get_or l 0 0) → k ≡ min n (length l) → length (take (length l - k) (drop k l)) < length l
+fewer l {n} {k} h e m = rw (behind l n k m, length-drop) (omega (arith, (item-bytes (get_or l 0 0)).0))
+
+pub no-more-items : (l : List ℕ) {text₀ whole text : List ℕ} {at next : ℕ} → length l < 1 → Left text₀ at whole text next (log_text l) → Wrote text₀ at whole text next
+unfolding log_text
+no-more-items [] {text = text} {next = next} h left = left text next (wrote (none text next))
+no-more-items (tag ∷ l) h left = absurd (omega arith)
 
 -- ---- what came of a record
-
-module _ {text after : List ℕ} {at next : ℕ} (log : List ℕ) where
-  pub shows-log : {p : Progress} → (q : Progress) → p ≡ q → Wrote text at (outcome_lines q log) after next → Wrote text at (outcome_lines p log) after next
-  shows-log q e w = rw e w
 
 pub shows_nothing : {text : List ℕ} {at : ℕ} (log : List ℕ) {p : Progress} (q : Progress) → p ≡ q → outcome_lines q log ≡ [] → Wrote text at (outcome_lines p log) text at
 shows_nothing {text} {at} log q e n = rw (e, n) (wrote (none text at))

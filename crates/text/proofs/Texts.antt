@@ -1,15 +1,15 @@
 -- What the functions that put texts leave, one behind the other. Assumes nothing.
-use Prim.Native.Nat.{ℕ, zero, suc, ◌-◌, ◌^◌, ◌≤◌, ◌<◌}
+use Prim.Native.Nat.{ℕ, zero, suc, ◌-◌, ◌^◌, ◌<◌}
 use native.Mathlib.Omega.{arith}
 use mathlib.Core.Path.{◌≡◌, ◌∙◌, refl, sym, ap}
-use mathlib.Core.Bool.{Bool, true, false, not}
+use mathlib.Core.Bool.{Bool, true, false}
 use mathlib.Core.List.{List, [], ◌∷◌}
 use lib.ListN.{length}
 use lib.IntN.{ℤ}
 use lib.Signed.{mag}
 use mir.Syntax.{w32}
 use mir.Val.{to_z, of_z}
-use Rattle.model.proofs.Terms.{message_bytes, eqb, ◌!◌, eq-eqb, ne_eqb, lt-leb, le-leb}
+use Rattle.model.proofs.Terms.{message_bytes, ◌!◌, eq-eqb, ne_eqb}
 use Rattle.model.specs.Record.{field}
 use Rattle.script.specs.Place.{Appends, Wrote}
 use Rattle.script.proofs.Appending.{none, wrote, wrote-more}
@@ -21,23 +21,6 @@ use Rattle.text.specs.Place.{word_value, letter, first_word, message_text, cut_t
 use Rattle.text.specs.Item.{part, task_text, ended_text, received_text, block_text, runs_text}
 
 -- ---- bytes of a message
-
-module _ (b : ℕ) where
-  pub too-low : b < 32 → false ≡ plain b
-  unfolding plain
-  too-low h = rw (lt-leb 32 b h)
-
-  pub too-high : 32 ≤ b → 126 < b → false ≡ plain b
-  unfolding plain
-  too-high l h = rw (le-leb 32 b l, lt-leb b 126 h)
-
-  pub a-quote : 32 ≤ b → b ≤ 126 → b ≡ 34 → false ≡ plain b
-  unfolding plain
-  a-quote l h e = rw e
-
-  pub backslash-or-not : 32 ≤ b → b ≤ 126 → (b ≡ 34 → ⊥) → not (eqb b 92) ≡ plain b
-  unfolding plain
-  backslash-or-not l h d = rw (le-leb 32 b l, le-leb b 126 h, ne_eqb b 34 d)
 
 module _ {line after : List ℕ} {at next : ℕ} (b : ℕ) {p : Bool} (e : p ≡ plain b) where
   pub byte-plain : p ≡ true → Appends line at (b ∷ []) after next → Wrote line at (shown_byte b) after next

@@ -21,10 +21,11 @@ fn put_log(text: &mut [u8], at: usize, log: &[u8]) -> usize
     ensures { Wrote text.old at (log_text log.now) text.new result }
 {
     let mut next = at;
-    let mut i = 0;
-    while i < log.len() {
-        next = put_item_line(text, next, &log[i..]);
-        i += item_length(log[i]);
+    let mut rest = log;
+    while let [tag, ..] = rest {
+        next = put_item_line(text, next, rest);
+        let length = item_length(*tag).min(rest.len());
+        rest = &rest[length..];
     }
     next
 }

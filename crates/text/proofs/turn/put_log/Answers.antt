@@ -1,26 +1,15 @@
--- `put_log` meets its contract. The invariant: what is left is the log from i on. Assumes nothing.
+-- `put_log` meets its contract. The invariant: what is left is the rest of the log. Assumes nothing.
 use borrow.Author.Rules.{rules}
-use Prim.Native.Nat.{◌-◌}
-use native.Mathlib.Omega.{arith}
-use mathlib.Core.Path.{refl}
-use lib.ListN.{length, get_or}
-use Rattle.text.proofs.Fitting.{item-bytes}
-use Rattle.text.proofs.Logs.{more-items, no-more-items}
+use Rattle.text.proofs.Logs.{more-items, fewer, no-more-items}
 use Rattle.text.proofs.turn.put_log.Goals as goal
 
-pub loop-i-init : goal.loop-i-init
-loop-i-init c = ((λ after n w. w), refl)
+pub loop-rest-smaller : goal.loop-rest-smaller
+loop-rest-smaller c = fewer c.loop-rest.rest.now c.in-len1-up.len_at_least c.item_length.ensures c.min-length.ensures
 
-pub overflow_add-i : goal.overflow_add-i
-overflow_add-i c = omega (arith, c.well_formed, c.loop-i-test.true, c.item_length-i.ensures, (item-bytes (get_or c.args.log.now c.loop-i.i 0)).1)
-
-pub loop-i-smaller : goal.loop-i-smaller
-loop-i-smaller c = omega (arith, c.loop-i-test.true, c.item_length-i.ensures, (item-bytes (get_or c.args.log.now c.loop-i.i 0)).0)
-
-pub loop-i-preserved : goal.loop-i-preserved
-loop-i-preserved c =
-    let l = c.loop-i in
-    (more-items _ l.i c.loop-i-test.true c.item_length-i.ensures l.invariant.0 c.put_item_line-next.ensures, search rules)
+pub loop-rest-preserved : goal.loop-rest-preserved
+loop-rest-preserved c =
+    let l = c.loop-rest in
+    (more-items l.rest.now c.in-len1-up.len_at_least c.item_length.ensures c.min-length.ensures l.invariant.0 c.put_item_line-next.ensures, search rules)
 
 pub returns : goal.returns
-returns c = let l = c.loop-i in no-more-items _ l.i c.loop-i-test.false l.invariant.0
+returns c = no-more-items c.loop-rest.rest.now c.in_default.len_below c.loop-rest.invariant.0

@@ -1,13 +1,12 @@
--- `put_log` meets its contract. The invariant: what is left is the log from i on. Assumes nothing.
-use Prim.Native.Nat.{◌-◌}
+-- `put_log` meets its contract. The invariant: what is left is the rest of the log. Assumes nothing.
 use mathlib.Core.Path.{◌≡◌}
-use lib.ListN.{length, drop}
+use lib.ListN.{length}
 use Rattle.text.specs.Turn.{log_text}
 use Rattle.text.proofs.Loops.{Left}
 use Rattle.text.proofs.turn.put_log.Given as goal
 
-abbrev pub invariant-loop-i : goal.invariant-loop-i
-invariant-loop-i l = Left l.initial.text l.at (log_text l.log) l.text l.next (log_text (drop l.i l.log)) × (length l.text ≡ length l.initial.text)
+abbrev pub invariant-loop-rest : goal.invariant-loop-rest
+invariant-loop-rest l = Left l.initial.text l.at (log_text l.log) l.text l.next (log_text l.rest) × (length l.text ≡ length l.initial.text)
 
-abbrev pub decreases-loop-i : goal.decreases-loop-i
-decreases-loop-i l = length l.log - l.i
+abbrev pub decreases-loop-rest : goal.decreases-loop-rest
+decreases-loop-rest l = length l.rest

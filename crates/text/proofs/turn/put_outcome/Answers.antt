@@ -1,10 +1,7 @@
 -- `put_outcome` meets its contract, by how the script goes on. Assumes nothing.
 use mathlib.Core.Path.{refl}
-use Rattle.text.proofs.Logs.{shows-log, shows_nothing}
+use Rattle.text.proofs.Logs.{shows_nothing}
 use Rattle.text.proofs.turn.put_outcome.Goals as goal
-
-pub returns-in-Answered : goal.returns-in-Answered
-returns-in-Answered c = shows-log _ _ c.in-Answered.is c.put_log.ensures
 
 pub returns-in-Over : goal.returns-in-Over
 returns-in-Over c = shows_nothing c.args.log.now _ c.in-Over.is refl
