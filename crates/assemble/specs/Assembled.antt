@@ -1,12 +1,11 @@
 -- A text of calls, a line each, as the bytes of a script.
-use Rattle.std.specs.Prelude.{ℕ, suc, ◌+◌, ◌≡◌, Bool, not, cond, List, [], ◌∷◌, ◌++◌, length, take, eqb}
+use Rattle.std.specs.Prelude.{ℕ, suc, ◌+◌, ◌≡◌, Bool, not, cond, List, [], ◌∷◌, ◌++◌, length, take, eqb, Result, Ok, Err}
+use Rattle.std.specs.List.{prefix_len}
 use Rattle.model.specs.Sizes.{script_bytes}
 use Rattle.script.specs.Place.{room}
 use Rattle.assemble.specs.declared.reason.Reason.{Reason}
 use Rattle.assemble.specs.declared.reason.Reason.TheVariants.{LongScript}
-use Rattle.assemble.specs.declared.assembler.Outcome.{Outcome}
-use Rattle.assemble.specs.declared.assembler.Outcome.TheVariants.{Script, Wrong}
-use Rattle.assemble.specs.Words.{run}
+use Rattle.assemble.specs.declared.assembler.WrongLine.{WrongLine as Where}
 use Rattle.assemble.specs.Lines.{Blank, Bytes, Bad, line_of}
 
 -- The bytes of a script; or which line is wrong, counted from 1, and why.
@@ -19,7 +18,7 @@ abbrev pub in_line : ℕ → Bool
 in_line c = not (eqb c 10)
 
 unfoldable pub line_length : List ℕ → ℕ
-line_length text = run in_line text
+line_length text = prefix_len in_line text
 
 -- the lines: a line feed ends one and begins the next
 abbrev pub with_first : ℕ → List (List ℕ) → List (List ℕ)
@@ -44,14 +43,14 @@ unfoldable pub assembled : List ℕ → Assembly
 assembled text = assembled_from 1 [] (lines_of text)
 
 -- What the code answers, and what stands in front of the area: the script.
-abbrev pub outcome : Assembly → Outcome
-outcome (Made bytes) = Script (length bytes)
-outcome (WrongLine n why) = Wrong n why
+abbrev pub outcome : Assembly → Result ℕ Where
+outcome (Made bytes) = Ok (length bytes)
+outcome (WrongLine n why) = Err (record { line = n; reason = why })
 
 abbrev pub made : Assembly → List ℕ
 made (Made bytes) = bytes
 made (WrongLine n why) = []
 
-pub record Assembles (a : Assembly) (after : List ℕ) (r : Outcome) : Type 0 where
+pub record Assembles (a : Assembly) (after : List ℕ) (r : Result ℕ Where) : Type 0 where
   pub answer : r ≡ outcome a
   pub front : take (length (made a)) after ≡ made a
