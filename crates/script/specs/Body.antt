@@ -8,11 +8,11 @@ use Rattle.script.specs.declared.body.Body.{Body}
 use Rattle.model.specs.Record.{Row, kinds, lookup, row_of}
 
 -- the parts of a kind's body: the bytes of its fields, and those of its message
-abbrev pub parts : ℕ → ℕ → code.Option Body
-parts fields message = Some (record { fields = fields; message = message })
+abbrev pub split_as : ℕ → ℕ → code.Option Body
+split_as fields message = Some (record { fields = fields; message = message })
 
 unfoldable pub body_parts : ℕ → code.Option Body
-body_parts kind = elim (row_of kind) [ none ↦ None | some r ↦ parts (4 * r.fields) (r.body - 4 * r.fields) ]
+body_parts kind = elim (row_of kind) [ none ↦ None | some r ↦ split_as (4 * r.fields) (r.body - 4 * r.fields) ]
 
 -- fields by their numbers, 0 beyond the last
 abbrev pub field_at : List ℤ → ℕ → ℤ

@@ -39,14 +39,13 @@ pub fn read_record(script: &[u8], c: Cursor) -> Result<Record, Stop>
 pub fn message<'a>(script: &'a [u8], c: Cursor) -> &'a [u8]
     ensures { result.now ≡ record_message script.now c.at }
 {
-    let at = c.at;
-    if script.len() <= at {
-        return part(script, at, 0);
-    }
-    let Some(body) = body_parts(script[at]) else {
-        return part(script, at, 0);
+    let Some(&kind) = script.get(c.at) else {
+        return &[];
     };
-    part(script, at + 1 + body.fields, body.message)
+    let Some(body) = body_parts(kind) else {
+        return &[];
+    };
+    part(script, c.at + 1 + body.fields, body.message)
 }
 
 // A call by its kind and fields, of which it takes as many as it has; tick where no record has the kind. Here those of tasks, the others below.
