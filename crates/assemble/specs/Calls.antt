@@ -1,5 +1,6 @@
 -- Calls by the names of the one table.
-use Rattle.std.specs.Prelude.{ℕ, zero, suc, ◌-◌, cond, List, Option, Some, None, bytes_eq}
+use Rattle.std.specs.Prelude.{ℕ, ◌-◌, List, Option, bytes_eq, find}
+use Rattle.std.specs.List.{range_with_len}
 use Rattle.model.specs.Record.{kind_count}
 use Rattle.text.specs.Names.{template}
 use Rattle.assemble.specs.Words.{word_at}
@@ -8,14 +9,9 @@ use Rattle.assemble.specs.Words.{word_at}
 unfoldable pub call_name : ℕ → List ℕ
 call_name kind = word_at (template kind) 0
 
--- the first of n kinds from one on that has a name
-abbrev pub kind_from : ℕ → ℕ → List ℕ → Option ℕ
-kind_from zero kind name = None
-kind_from (suc n) kind name = cond (bytes_eq (call_name kind) name) (Some kind) (kind_from n (suc kind) name)
-
--- among all kinds
+-- the first of all kinds that has a name
 unfoldable pub kind_named : List ℕ → Option ℕ
-kind_named name = kind_from (kind_count - 1) 1 name
+kind_named name = find (λ kind. bytes_eq (call_name kind) name) (range_with_len 1 (kind_count - 1))
 
 -- what has to unfold for the definitions of this file to compute
 unfoldable pub compute_calls : Unit {0}

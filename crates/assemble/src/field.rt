@@ -1,5 +1,5 @@
 // The fields of a call.
-ghost use Rattle.std.specs.Prelude.{◌≤◌, ◌≡◌, length};
+ghost use Rattle.std.specs.Prelude.{◌≡◌, length};
 ghost use Rattle.assemble.specs.Fields.{name_length, number_from, field_of, field_at, fields_from, fields_read};
 ghost use Rattle.assemble.specs.Read.{read};
 
@@ -54,24 +54,22 @@ fn field_at(name: &[u8], line: &[u8], at: usize) -> Result<i32, Reason>
     field_of(name, word(line, at))
 }
 
-// Some fields from a place on, by their names from a place on.
+// As many fields as there are values, from a place on, by their names from a place on.
 fn fields_from(
     values: &mut [i32],
-    count: usize,
     names: &[u8],
     from: usize,
     line: &[u8],
     start: usize,
 ) -> Result<usize, Reason>
-    requires { count ≤ length values.old }
-    ensures { read values.new result ≡ fields_from count 0 values.old names.now from line.now start }
+    ensures { read values.new result ≡ fields_from (length values.old) 0 values.old names.now from line.now start }
 {
     let mut t = from;
     let mut at = start;
-    for i in 0..count {
+    for value in values.iter_mut() {
         t = skip_blanks(names, t);
         at = skip_blanks(line, at);
-        values[i] = field_at(word(names, t), line, at)?;
+        *value = field_at(word(names, t), line, at)?;
         t = word_end(names, t);
         at = word_end(line, at);
     }
@@ -81,16 +79,14 @@ fn fields_from(
 // The fields of a kind's call.
 pub(crate) fn read_fields(
     values: &mut [i32],
-    count: usize,
     kind: u8,
     line: &[u8],
     at: usize,
 ) -> Result<usize, Reason>
-    requires { count ≤ length values.old }
-    ensures { read values.new result ≡ fields_read count values.old kind line.now at }
+    ensures { read values.new result ≡ fields_read (length values.old) values.old kind line.now at }
 {
     let mut names = [0u8; TEMPLATE_BYTES];
     let n = put_template(&mut names, 0, kind);
     let names = part(&names, 0, n);
-    fields_from(values, count, names, word_end(names, 0), line, at)
+    fields_from(values, names, word_end(names, 0), line, at)
 }

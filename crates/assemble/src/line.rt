@@ -37,7 +37,8 @@ fn assemble_call(
 {
     let body = body_parts(kind).ok_or(Reason::UnknownCall)?;
     let mut values = [0i32; FIELDS];
-    let behind = read_fields(&mut values, body.fields / 4, kind, line, from)?;
+    let count = body.fields / 4;
+    let behind = read_fields(&mut values[..count], kind, line, from)?;
     let mut message = [0u8; MESSAGE_BYTES];
     let end = read_message(&mut message, body.message, line, behind)?;
     if !is_over(line, skip_blanks(line, end)) {
