@@ -4,7 +4,7 @@ ghost use Rattle.model.specs.Lists.{padded};
 ghost use Rattle.model.specs.Message.{outbox_message, with_outbox_message};
 
 use super::copy::{copy_in, fill_zero};
-use super::part::outbox_part;
+use super::part::part_of;
 use super::region::clear;
 use model::number::TaskNumber;
 
@@ -20,14 +20,14 @@ fn fill(p: &mut [u8], m: &[u8], n: usize)
 pub fn outbox_put(outbox: &mut [u8], t: TaskNumber, m: &[u8], n: usize)
     ensures { outbox.new ≡ with_outbox_message t.0 outbox.old (take n m.now) }
 {
-    let part = outbox_part(t, outbox.len());
+    let part = part_of(t, outbox.len());
     fill(&mut outbox[part], m, n);
 }
 
 pub fn outbox_clear(outbox: &mut [u8], t: TaskNumber)
     ensures { outbox.new ≡ with_outbox_message t.0 outbox.old [] }
 {
-    let part = outbox_part(t, outbox.len());
+    let part = part_of(t, outbox.len());
     clear(&mut outbox[part]);
 }
 
@@ -35,6 +35,6 @@ pub fn outbox_clear(outbox: &mut [u8], t: TaskNumber)
 pub fn outbox_message<'a>(outbox: &'a [u8], t: TaskNumber, n: usize) -> &'a [u8]
     ensures { result.now ≡ outbox_message t.0 n outbox.now }
 {
-    let part = &outbox[outbox_part(t, outbox.len())];
+    let part = &outbox[part_of(t, outbox.len())];
     &part[..n.min(part.len())]
 }
