@@ -21,8 +21,7 @@ fn write_call(script: &mut [u8], at: usize, call: Call, message: &[u8]) -> Resul
     requires { length message.now ≡ message_length (kind_of call) }
     ensures { Extends script.old at (Bytes (record_bytes call message.now)) script.new result }
 {
-    let next = write_record(script, at, call, message)?;
-    Ok(next)
+    Ok(write_record(script, at, call, message)?)
 }
 
 // What is behind a call's name, and then the record.
