@@ -5,11 +5,10 @@ ghost use Rattle.model.specs.Effect.{take_oldest};
 ghost use Rattle.model.specs.Words.{word_count, kernel};
 ghost use Rattle.act.specs.Held.{DoesInStore};
 
-use state::layout::Words;
-use message::copy::least;
 use message::room::cost;
 use message::store::{store_append, store_oldest_length, store_remove};
 use model::number::BufferNumber;
+use state::layout::Words;
 
 // A message is stored. A caller has seen that it fits: else the bytes used need not be a word.
 pub fn store_message(state: &mut Words, store: &mut [u8], b: BufferNumber, m: &[u8])
@@ -30,6 +29,6 @@ pub fn take_oldest(state: &mut Words, store: &mut [u8], b: BufferNumber)
     let used = state::buffer::used(state, b) as usize;
     let gone = cost(store_oldest_length(store, b));
     store_remove(store, b);
-    let after = used - least(gone, used);
+    let after = used.saturating_sub(gone);
     state::buffer::set_used(state, b, after as u32);
 }

@@ -1,4 +1,5 @@
 -- `valid_step` meets its contract: the call is carried out, or its refusal is the answer. Assumes nothing.
+use Rattle.std.proofs.Math.Option.{some}
 use mathlib.Core.Option.{some}
 use mathlib.Core.Path.{ap, ◌∙◌, sym}
 use mir.Facts.{to_z-of_z}
