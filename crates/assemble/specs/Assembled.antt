@@ -1,6 +1,6 @@
 -- A text of calls, a line each, as the bytes of a script.
-use Rattle.std.specs.Prelude.{ℕ, suc, ◌+◌, ◌≡◌, Bool, not, cond, List, [], ◌∷◌, ◌++◌, length, take, eqb, Result, Ok, Err}
-use Rattle.std.specs.List.{prefix_len}
+use Rattle.std.specs.Prelude.{ℕ, suc, ◌≡◌, cond, List, [], ◌∷◌, ◌++◌, length, take, eqb, Result, Ok, Err}
+use Rattle.std.specs.List.{slice_split}
 use Rattle.model.specs.Sizes.{script_bytes}
 use Rattle.script.specs.Place.{room}
 use Rattle.assemble.specs.declared.reason.Reason.{Reason}
@@ -13,21 +13,9 @@ pub data Assembly : Type 0 where
   Made : List ℕ → Assembly
   WrongLine : ℕ → Reason → Assembly
 
--- how many bytes the first line has, up to a line feed
-abbrev pub in_line : ℕ → Bool
-in_line c = not (eqb c 10)
-
-unfoldable pub line_length : List ℕ → ℕ
-line_length text = prefix_len in_line text
-
 -- the lines: a line feed ends one and begins the next
-abbrev pub with_first : ℕ → List (List ℕ) → List (List ℕ)
-with_first c [] = (c ∷ []) ∷ []
-with_first c (l ∷ ls) = (c ∷ l) ∷ ls
-
 abbrev pub lines_of : List ℕ → List (List ℕ)
-lines_of [] = [] ∷ []
-lines_of (c ∷ text) = cond (in_line c) (with_first c (lines_of text)) ([] ∷ lines_of text)
+lines_of text = slice_split (λ c. eqb c 10) text
 
 -- the lines from line n on, behind the bytes that are made already: each one's record goes behind them, while the script is not too long
 abbrev pub assembled_from : ℕ → List ℕ → List (List ℕ) → Assembly
