@@ -20,8 +20,10 @@ pub(crate) fn assemble(text: &[u8], script: &mut [u8]) -> Result<usize, WrongLin
 {
     let mut end = 0;
     for (i, line) in text.split(|c| *c == b'\n').enumerate() {
-        end = assemble_line(script, end, line)
-            .map_err(|reason| WrongLine { line: i + 1, reason })?;
+        end = assemble_line(script, end, line).map_err(|reason| WrongLine {
+            line: i + 1,
+            reason,
+        })?;
     }
     Ok(end)
 }

@@ -25,10 +25,7 @@ pub(crate) fn rest(line: &[u8], at: usize) -> &[u8]
 pub(crate) fn skip_blanks(line: &[u8], at: usize) -> usize
     ensures { result ≡ Words.word_start line.now at }
 {
-    at + rest(line, at)
-        .iter()
-        .take_while(|c| is_blank(**c))
-        .count()
+    at + rest(line, at).iter().take_while(|c| is_blank(**c)).count()
 }
 
 // The word at a place.

@@ -1,10 +1,10 @@
 -- `assemble` meets its contract, line by line. Assumes nothing.
-use Rattle.std.proofs.Common.{◌≡◌, ◌+◌, eqb, rules, tests, arith, length, ℕ, ap, subst, Ok, Err}
+use Rattle.std.proofs.Common.{◌≡◌, ◌+◌, eqb, rules, tests, arith, length, Err}
 use Rattle.std.proofs.lemmas.Iterator.Consumers.{YieldsList-at, YieldsList-from_enumerate}
 use Rattle.std.proofs.lemmas.Iterator.Splits.{YieldsList-from_slice_split}
 use Rattle.std.proofs.lemmas.List.{length_push}
 use Rattle.assemble.specs.Assembled.{lines_of}
-use Rattle.assemble.proofs.Texts.{Going, going, finishes, fails, goes, turn, last-turn}
+use Rattle.assemble.proofs.Texts.{going, finishes, fails, goes, turn, last-turn}
 use Rattle.assemble.proofs.assembler.assemble.Goals as goal
 
 pub loop-i-init : goal.loop-i-init

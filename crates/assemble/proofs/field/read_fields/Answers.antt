@@ -1,6 +1,5 @@
 -- `read_fields` meets its contract, the names that it takes are the template. Assumes nothing.
-use Rattle.std.proofs.Common.{◌≡◌, take, arith}
-use Rattle.text.specs.Names.{template}
+use Rattle.std.proofs.Common.{arith}
 use Rattle.assemble.specs.Fields.{fields_read}
 use Rattle.assemble.proofs.Names.{template-is}
 use Rattle.assemble.proofs.field.read_fields.Goals as goal

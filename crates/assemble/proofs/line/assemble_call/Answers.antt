@@ -1,11 +1,6 @@
 -- `assemble_call` meets its contract, part by part. Assumes nothing.
-use Rattle.std.proofs.Common.{◌≡◌, ◌+◌, ◌/◌, ◌++◌, ap, sym, arith, rules, Bool, not, List, length, take, drop, ℤ, Some, None, Ok, Err, length-take-le}
-use mir.Syntax.{w32}
-use mir.Val.{SFits}
-use Rattle.script.specs.Body.{body_parts, field_at, call_in}
-use Rattle.model.specs.Record.{kinds}
+use Rattle.std.proofs.Common.{◌/◌, ◌++◌, sym, arith, rules, drop, length-take-le}
 use Rattle.assemble.specs.declared.reason.Reason.TheVariants.{UnknownCall, LeftOver}
-use Rattle.assemble.specs.Words.{is_over}
 use Rattle.assemble.specs.Lines.{no_fields}
 use Rattle.assemble.proofs.Lines.{bad-line, no-parts, few-fields, call-of-three, right-size, fields-bad, message-bad, left_over, whole-call}
 use Rattle.assemble.proofs.line.assemble_call.Goals as goal

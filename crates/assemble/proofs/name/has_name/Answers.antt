@@ -1,6 +1,5 @@
 -- `has_name` meets its contract, the words that it takes are the template. Assumes nothing.
-use Rattle.std.proofs.Common.{◌≡◌, take, arith}
-use Rattle.text.specs.Names.{template}
+use Rattle.std.proofs.Common.{arith}
 use Rattle.assemble.specs.Calls.{call_name}
 use Rattle.assemble.proofs.Names.{template-is}
 use Rattle.assemble.proofs.name.has_name.Goals as goal

@@ -1,5 +1,5 @@
 -- `magnitude` meets its contract, digit by digit. Assumes nothing.
-use Rattle.std.proofs.Common.{◌≡◌, drop, length, Some, None, arith, length-drop, drop_of_length-le}
+use Rattle.std.proofs.Common.{arith, length-drop, drop_of_length-le}
 use Rattle.std.proofs.lemmas.Bool.Decides.{nat_tests}
 use Rattle.assemble.proofs.Digits.{no-digits, digits-from, wrong-digit}
 use Rattle.assemble.proofs.number.magnitude.Goals as goal

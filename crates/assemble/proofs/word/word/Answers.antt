@@ -1,5 +1,5 @@
 -- `word` meets its contract: it counts the bytes up to the first that ends a word. Assumes nothing.
-use Rattle.std.proofs.Common.{◌∙◌, ap, rules, not, drop, take, ℕ, tests, arith}
+use Rattle.std.proofs.Common.{◌∙◌, rules, not, drop, tests, arith}
 use Rattle.std.proofs.lemmas.Iterator.{YieldsList-from_slice}
 use Rattle.std.proofs.lemmas.Iterator.Consumers.{YieldsList-at, count_from_yields_List}
 use Rattle.std.proofs.lemmas.Iterator.Search.{YieldsList-from_take_while}

@@ -1,7 +1,7 @@
 -- `word_end` meets its contract: the word ends behind its length. Assumes nothing.
 use Rattle.std.proofs.Common.{arith, drop, ap, length, length-drop, length-take}
 use Rattle.std.proofs.lemmas.List.Folds.{length-prefix_len}
-use Rattle.assemble.specs.Words.{ends_word, word_length, word_at, word_end}
+use Rattle.assemble.specs.Words.{word_length, word_at, word_end}
 use Rattle.assemble.proofs.word.word_end.Goals as goal
 
 pub overflow_add-result : goal.overflow_add-result
