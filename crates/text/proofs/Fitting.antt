@@ -11,7 +11,7 @@ use lib.IntN.{ℤ, pos, negsuc}
 use Rattle.model.proofs.Terms.{leb, leb-true, eqb, ltb, all, joined, script_bytes, message_bytes, Option, none, some, ◌-◌, ◌!◌}
 use Rattle.model.proofs.ListLaws.{either}
 use Rattle.model.specs.Message.{over}
-use Rattle.model.specs.declared.kind.BodyLength.TheVariants.{Bytes, Unknown}
+use Rattle.std.specs.Prelude.{Some, None}
 use Rattle.model.specs.Record.{Row, row_of, body_length, field, message_here}
 use Rattle.script.specs.Place.{Wrote}
 use Rattle.script.proofs.Appending.{over-paste, placed-room, next-room, length_over}
@@ -206,9 +206,9 @@ unfolding here_text call_text unknown_text cut_text hex_byte
 here-short [] = omega arith
 here-short (kind ∷ body) =
     elim (body_length kind) as (λ l. length {A =
-    ℕ} (elim l [ Unknown ↦ unknown_text kind | Bytes n ↦ cond (leb n (length body)) (call_text kind body) (cut_text kind n (length body)) ]) ≤ 224) [
-      | Unknown ↦ omega arith
-      | Bytes n ↦
+    ℕ} (elim l [ None ↦ unknown_text kind | Some n ↦ cond (leb n (length body)) (call_text kind body) (cut_text kind n (length body)) ]) ≤ 224) [
+      | None ↦ omega arith
+      | Some n ↦
           either (λ (t : List ℕ). length t ≤ 224) (leb n (length body))
           (let m = message_here (kind ∷ body) in
           omega (arith, length-append (with_values body 0 (template kind)) (message_text m), call-short body kind, message-short m (message-long (kind ∷ body))))

@@ -3,11 +3,11 @@ use Prim.Native.Nat.{ℕ, ◌+◌, ◌-◌, ◌≤◌, ◌<◌}
 use native.Mathlib.Omega.{arith}
 use native.Mathlib.Numerals.{add-one}
 use mathlib.Core.Path.{◌≡◌, ◌∙◌, sym, ap}
-use mathlib.Core.List.{List, [], ◌∷◌}
+use mathlib.Core.List.{List, ◌∷◌}
 use lib.ListN.{length, take, drop, length-drop, drop_of_length-le}
 use lib.Seq.{drop-cons, take_all}
 use Rattle.model.proofs.Terms.{◌!◌, script_bytes, le-leb, lt-leb, le-ltb, lt-ltb}
-use Rattle.model.specs.declared.kind.BodyLength.TheVariants.{Bytes, Unknown}
+use Rattle.std.specs.Prelude.{Some, None}
 use Rattle.model.specs.Record.{body_length, message_here, record_message}
 use Rattle.script.specs.Place.{Appends, Wrote}
 use Rattle.script.proofs.Appending.{wrote, wrote-more}
@@ -35,16 +35,16 @@ module _ (script : List ℕ) (at : ℕ) (inside : at < length script) where
   here = rw (rest script (at + 1), add-one) (drop-cons script at 0 inside)
 
   module _ {line after : List ℕ} {a next : ℕ} where
-    pub here-unknown : body_length kind ≡ Unknown → Wrote line a (unknown_text kind) after next → Wrote line a (here_text (drop at script)) after next
+    pub here-unknown : body_length kind ≡ None → Wrote line a (unknown_text kind) after next → Wrote line a (here_text (drop at script)) after next
     unfolding here_text
     here-unknown e p = rw here (rw (e, here_text) p)
 
-    pub here-cut : {n : ℕ} → body_length kind ≡ Bytes n → length body < n → Wrote line a (cut_text kind n (length body)) after next
+    pub here-cut : {n : ℕ} → body_length kind ≡ Some n → length body < n → Wrote line a (cut_text kind n (length body)) after next
         → Wrote line a (here_text (drop at script)) after next
     unfolding here_text
     here-cut {n} e h p = rw here (rw (e, here_text, lt-leb n (length body) h) p)
 
-    pub here-call : {n i : ℕ} {mid message : List ℕ} → body_length kind ≡ Bytes n → n ≤ length body → Wrote line a (with_values body 0 (template kind)) mid i
+    pub here-call : {n i : ℕ} {mid message : List ℕ} → body_length kind ≡ Some n → n ≤ length body → Wrote line a (with_values body 0 (template kind)) mid i
         → message ≡ record_message script at
         → Wrote mid i (message_text message) after next → Wrote line a (here_text (drop at script)) after next
     unfolding here_text call_text record_message

@@ -29,6 +29,9 @@ known-all n known (r ∷ rows) h =
     (k.0.0, rw (ne_eqb n r.0 k.0.1, named) k.1)
 
 -- so it has no name, and nothing is put
+pub no-name : (rows : List (ℕ × String)) (n : ℕ) → Rest n (Unit {0}) (numbers rows) → [] ≡ ascii (named n rows)
+no-name rows n h = rw (known-all n (Unit {0}) rows h).1
+
 pub last_arm : (rows : List (ℕ × String)) (n at : ℕ) (line : List ℕ) → Rest n (Unit {0}) (numbers rows) → Appends line at (ascii (named n rows)) line at
 last_arm rows n at line h = rw (known-all n (Unit {0}) rows h).1 (none line at)
 

@@ -1,10 +1,10 @@
 -- A message without the zeros at its end, found from the end. Assumes nothing.
-use Prim.Native.Nat.{ℕ, zero, suc, ◌+◌, ◌-◌, ◌≤◌, ◌<◌}
+use Prim.Native.Nat.{ℕ, zero, suc, ◌-◌, ◌≤◌, ◌<◌}
 use native.Mathlib.Omega.{arith}
 use mathlib.Core.Path.{◌≡◌, ◌∙◌, refl, sym, ap}
 use mathlib.Core.List.{List, [], ◌∷◌, ◌++◌}
 use lib.ListN.{length, get_or, take}
-use lib.Seq.{take-suc}
+use lib.Seq.{take-suc, take-length}
 use Rattle.text.specs.Quoted.{before, trimmed}
 
 -- a zero at the end goes
@@ -26,19 +26,20 @@ last_byte zero [] d = absurd (d refl)
 last_byte (suc b) [] d = refl
 last_byte b (x ∷ xs) d = ap (before x) (last_byte b xs d) ∙ not-empty x b xs
 
-module _ (m : List ℕ) (n : ℕ) (h : 0 < n) (inside : n ≤ length m) where
-  less : suc (n - 1) ≡ n
-  less = omega arith
+-- by the last byte of a message
+module _ (m : List ℕ) (h : 1 ≤ length m) where
+  cut : m ≡ take (length m - 1) m ++ get_or m (length m - 1) 0 ∷ []
+  cut =
+      let less : length m ≡ suc (length m - 1) = omega arith in
+      sym (take-length m) ∙ ap (λ (k : ℕ). take k m) less ∙ take-suc m (length m - 1) 0 (omega arith)
 
-  pub zero-goes : get_or m (n - 1) 0 ≡ 0 → trimmed (take n m) ≡ trimmed (take (n - 1) m)
-  zero-goes e =
-      ap trimmed (ap (λ (k : ℕ). take k m) (sym less) ∙ take-suc m (n - 1) 0 (omega arith) ∙ ap (λ (b : ℕ). take (n - 1) m ++ b ∷ []) e) ∙ last-zero (take (n - 1) m)
+  pub zero-goes : get_or m (length m - 1) 0 ≡ 0 → trimmed (take (length m - 1) m) ≡ trimmed m
+  zero-goes e = sym (last-zero (take (length m - 1) m)) ∙ ap (λ (b : ℕ). trimmed (take (length m - 1) m ++ b ∷ [])) (sym e) ∙ ap trimmed (sym cut)
 
-  pub byte-stays : (get_or m (n - 1) 0 ≡ 0 → ⊥) → trimmed (take n m) ≡ take n m
-  byte-stays d =
-      let e = ap (λ (k : ℕ). take k m) (sym less) ∙ take-suc m (n - 1) 0 (omega arith) in
-      ap trimmed e ∙ last_byte (get_or m (n - 1) 0) (take (n - 1) m) d ∙ sym e
+  pub byte-stays : (get_or m (length m - 1) 0 ≡ 0 → ⊥) → m ≡ trimmed m
+  byte-stays d = cut ∙ sym (last_byte (get_or m (length m - 1) 0) (take (length m - 1) m) d) ∙ ap trimmed (sym cut)
 
-pub none_left : (m : List ℕ) (n : ℕ) → n ≡ 0 → trimmed (take n m) ≡ trimmed m → take n m ≡ trimmed m
+pub none_left : (m : List ℕ) → length m < 1 → m ≡ trimmed m
 unfolding trimmed
-none_left m n z e = rw z (rw z at e)
+none_left [] h = refl
+none_left (b ∷ m) h = absurd (omega arith)

@@ -1,6 +1,5 @@
 -- The line of what stands at a place of a script: its record's call, that the script stops there and why, or its end.
-use Rattle.std.specs.Prelude.{ℕ, zero, suc, cond, List, [], ◌∷◌, ◌++◌, length, drop, eqb, leb, ltb}
-use Rattle.model.specs.declared.kind.BodyLength.TheVariants.{Bytes, Unknown}
+use Rattle.std.specs.Prelude.{ℕ, zero, suc, cond, List, [], ◌∷◌, ◌++◌, length, drop, eqb, leb, ltb, Some, None}
 use Rattle.model.specs.Sizes.{script_bytes}
 use Rattle.model.specs.Record.{body_length, field, message_here}
 use Rattle.text.specs.Names.{ascii, template}
@@ -50,8 +49,8 @@ unfoldable pub here_text : List ℕ → List ℕ
 here_text [] = ascii "end"
 here_text (kind ∷ body) =
     elim (body_length kind) [
-      | Unknown ↦ unknown_text kind
-      | Bytes n ↦ cond (leb n (length body)) (call_text kind body) (cut_text kind n (length body))
+      | None ↦ unknown_text kind
+      | Some n ↦ cond (leb n (length body)) (call_text kind body) (cut_text kind n (length body))
     ]
 
 unfoldable pub too_long_text : List ℕ

@@ -1,6 +1,5 @@
 -- The text of a whole script: at each place its line, and behind a record's line those of its log.
-use Rattle.std.specs.Prelude.{ℕ, zero, suc, true, false, ◌≡◌, List, [], ◌∷◌, ◌++◌, map, length, ltb}
-use Rattle.model.specs.declared.call.Read.TheVariants.{Record, Stop}
+use Rattle.std.specs.Prelude.{ℕ, zero, suc, true, false, ◌≡◌, List, [], ◌++◌, map, length, ltb, Ok, Err}
 use Rattle.model.specs.Sizes.{script_bytes}
 use Rattle.model.specs.Lists.{joined}
 use Rattle.model.specs.World.{Lent, running, Delivery, Nothing, Message, Block, Ended}
@@ -37,10 +36,10 @@ abbrev pub text_from : ℕ → Lent → List ℕ → ℕ → List ℕ
 text_from zero x script at = []
 text_from (suc n) x script at =
     elim (read_record script at) [
-      | Stop offset ↦ place_line script at
-      | Record c next ↦
-          let o = step x c (record_message script at) in
-          place_line script at ++ log_text (outcome_log (running x.kernel) o) ++ text_from n o.lent script next.at
+      | Err stop ↦ place_line script at
+      | Ok r ↦
+          let o = step x r.call (record_message script at) in
+          place_line script at ++ log_text (outcome_log (running x.kernel) o) ++ text_from n o.lent script r.next.at
     ]
 
 -- from the fresh state; the last line is the end's or the stop's, or says that the script is too long, and is the only one then

@@ -1,7 +1,6 @@
 // Numbers put at a place of a lent line.
 ghost use Rattle.std.specs.Prelude.{◌<◌, ◌≡◌};
 ghost use Rattle.script.specs.Place.{Appends, Wrote};
-ghost use Rattle.text.specs.Names.{size};
 ghost use Rattle.text.specs.Numbers;
 
 use super::names::put_error;
@@ -15,18 +14,11 @@ pub fn put_number(line: &mut [u8], at: usize, n: usize) -> usize
     put(line, at, &digits[..k])
 }
 
-// A number without its sign.
-fn size(z: i32) -> u32
-    ensures { result ≡ size z }
-{
-    if z < 0 { (-1 - z) as u32 + 1 } else { z as u32 }
-}
-
 // A field.
 pub fn put_signed(line: &mut [u8], at: usize, z: i32) -> usize
     ensures { Wrote line.old at (Numbers.signed_decimal z) line.new result }
 {
-    let n = size(z) as usize;
+    let n = z.unsigned_abs() as usize;
     if z < 0 {
         let next = put(line, at, b"-");
         put_number(line, next, n)
@@ -41,7 +33,7 @@ pub fn put_code(line: &mut [u8], at: usize, code: i32) -> usize
 {
     let next = put_signed(line, at, code);
     if code < 0 {
-        put_error(line, next, size(code))
+        put_error(line, next, code.unsigned_abs())
     } else {
         next
     }
@@ -51,7 +43,7 @@ fn hex_digit(d: u8) -> u8
     requires { d < 16 }
     ensures { result ≡ Numbers.hex_digit d }
 {
-    if d < 10 { 48 + d } else { 55 + d }
+    if d < 10 { b'0' + d } else { b'A' + (d - 10) }
 }
 
 // A byte as two hexadecimal digits.

@@ -1,14 +1,14 @@
 // The line of what stands at a place of a script.
-ghost use Rattle.std.specs.Prelude.{◌≤◌, ◌≡◌, length, take, drop};
+ghost use Rattle.std.specs.Prelude.{◌≡◌, drop};
 ghost use Rattle.script.specs.Place.{Wrote};
 ghost use Rattle.text.specs.Names.{template};
 ghost use Rattle.text.specs.Place.{word_value, letter, with_values, first_word, message_text, unknown_text, cut_text, here_text, too_long_text, place_line};
 
-use super::names::{TEMPLATE_BYTES, put_template};
+use super::names::template;
 use super::number::{put_hex, put_number, put_signed};
 use super::quoted::put_quoted;
 use model::call::Cursor;
-use model::kind::{BodyLength, body_length};
+use model::kind::body_length;
 use model::sizes::SCRIPT_BYTES;
 use script::field::field;
 use script::place::put;
@@ -43,14 +43,11 @@ fn put_words(line: &mut [u8], at: usize, template: &[u8], body: &[u8]) -> usize
 {
     let mut next = at;
     let mut word = 0;
-    let mut i = 0;
-    while i < template.len() {
-        let c = template[i];
+    for &c in template {
         next = put_letter(line, next, body, word, c);
         if c == b' ' {
             word += 1;
         }
-        i += 1;
     }
     put_value(line, next, body, word)
 }
@@ -59,40 +56,28 @@ fn put_words(line: &mut [u8], at: usize, template: &[u8], body: &[u8]) -> usize
 fn put_call(line: &mut [u8], at: usize, kind: u8, body: &[u8]) -> usize
     ensures { Wrote line.old at (with_values body.now 0 (template kind)) line.new result }
 {
-    let mut words = [0u8; TEMPLATE_BYTES];
-    let n = put_template(&mut words, 0, kind);
-    put_words(line, at, &words[..n], body)
+    put_words(line, at, template(kind), body)
 }
 
-// How long the first word of a template is.
-fn word_length(template: &[u8]) -> usize
-    ensures template_value { take result template.now ≡ first_word template.now }
-    ensures upper_bound { result ≤ length template.now }
+// The first word of a template.
+fn first_word(template: &[u8]) -> &[u8]
+    ensures { result.now ≡ first_word template.now }
 {
-    let mut i = 0;
-    while i < template.len() {
-        if template[i] == b' ' {
-            return i;
-        }
-        i += 1;
-    }
-    i
+    let space = template.iter().position(|c| *c == b' ');
+    &template[..space.unwrap_or(template.len())]
 }
 
 // The call's name alone.
 fn put_name(line: &mut [u8], at: usize, kind: u8) -> usize
     ensures { Wrote line.old at (first_word (template kind)) line.new result }
 {
-    let mut words = [0u8; TEMPLATE_BYTES];
-    let n = put_template(&mut words, 0, kind);
-    let k = word_length(&words[..n]);
-    put(line, at, &words[..k])
+    put(line, at, first_word(template(kind)))
 }
 
 fn put_message(line: &mut [u8], at: usize, message: &[u8]) -> usize
     ensures { Wrote line.old at (message_text message.now) line.new result }
 {
-    if message.len() == 0 {
+    if message.is_empty() {
         return at;
     }
     let next = put(line, at, b" ");
@@ -127,7 +112,7 @@ fn put_here(line: &mut [u8], at: usize, script: &[u8], place: usize) -> usize
     let kind = script[place];
     let start = place + 1;
     let body = &script[start..];
-    let BodyLength::Bytes(needs) = body_length(kind) else {
+    let Some(needs) = body_length(kind) else {
         return put_unknown(line, at, kind);
     };
     if body.len() < needs {

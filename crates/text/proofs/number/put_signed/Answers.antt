@@ -5,8 +5,8 @@ use Rattle.text.proofs.number.put_signed.Goals as goal
 
 pub returns-then-z-lt0 : goal.returns-then-z-lt0
 returns-then-z-lt0 c =
-    signed_below _ (to_z-of_z c.ranges.z) c.if-z-lt0.true c.size-n.ensures c.put-next.ensures
+    signed_below _ (to_z-of_z c.ranges.z) c.if-z-lt0.true c.unsigned_abs-n.ensures.value c.put-next.ensures
     c.put_number.ensures
 
 pub returns-else-z-lt0 : goal.returns-else-z-lt0
-returns-else-z-lt0 c = signed-from-zero _ (to_z-of_z c.ranges.z) c.if-z-lt0.false c.size-n.ensures c.put_number-else-z-lt0.ensures
+returns-else-z-lt0 c = signed-from-zero _ (to_z-of_z c.ranges.z) c.if-z-lt0.false c.unsigned_abs-n.ensures.value c.put_number-else-z-lt0.ensures

@@ -18,12 +18,12 @@ pub returns-then-body-needs : goal.returns-then-body-needs
 returns-then-body-needs c =
     let a = c.args in
     here-cut a.script.now a.place c.if-script-place.false
-    (sym c.body_length.ensures ∙ c.in-Bytes.is) c.if-body-needs.true
+    (sym c.body_length.ensures ∙ c.in-Some.is) c.if-body-needs.true
     c.put_cut.ensures
 
 pub returns : goal.returns
 returns c =
     let a = c.args in
-    here-call a.script.now a.place c.if-script-place.false (sym c.body_length.ensures ∙ c.in-Bytes.is)
+    here-call a.script.now a.place c.if-script-place.false (sym c.body_length.ensures ∙ c.in-Some.is)
     c.if-body-needs.false c.put_call-next.ensures
     c.message.ensures c.put_message.ensures

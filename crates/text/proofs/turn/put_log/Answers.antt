@@ -1,9 +1,8 @@
 -- `put_log` meets its contract. The invariant: what is left is the log from i on. Assumes nothing.
 use borrow.Author.Rules.{rules}
-use Prim.Native.Nat.{◌-◌}
 use native.Mathlib.Omega.{arith}
 use mathlib.Core.Path.{refl}
-use lib.ListN.{length, get_or}
+use lib.ListN.{get_or}
 use Rattle.text.proofs.Fitting.{item-bytes}
 use Rattle.text.proofs.Logs.{more-items, no-more-items}
 use Rattle.text.proofs.turn.put_log.Goals as goal
