@@ -1,4 +1,4 @@
--- A template in an area of its own, and the kind that has a name. Assumes nothing.
+-- The kinds one by one. Assumes nothing.
 use Rattle.std.proofs.Common.{◌≡◌, ◌<◌, ◌≤◌, ◌+◌, ◌-◌, ℕ, suc, ◌∙◌, sym, ap, ap₂, refl, arith, Bool, true, false, cond, List, [], ◌∷◌, length, take, Option, Some, None, option_map, bytes_eq}
 use Rattle.std.specs.List.{range_with_len}
 use Rattle.std.specs.Range.{range_inclusive_len, range_inclusive_start, range_inclusive_end, range_inclusive_exhausted}
@@ -6,14 +6,6 @@ use Rattle.core.specs.declared.iter.ranges.RangeInclusive.{RangeInclusive}
 use Rattle.std.proofs.iter.runs.Sources.{nat_range_inclusive_steps}
 use Rattle.std.proofs.lemmas.Iterator.{YieldsList}
 use Rattle.std.proofs.lemmas.Iterator.Consumers.{YieldsList-from_shown}
-use Rattle.script.specs.Place.{Appends}
-use Rattle.script.proofs.Appending.{wrote}
-use Rattle.text.specs.Names.{template}
-use Rattle.text.proofs.Fitting.{is_front, template-short}
-
-pub template-is : (kind : ℕ) (area after : List ℕ) (n : ℕ) → Appends area 0 (template kind) after n → length area ≡ 32 → take n after ≡ template kind
-template-is kind area after n p size =
-    (is_front (let h : length (template kind) ≤ length area = omega (arith, template-short kind) in h) (wrote p)).bytes
 
 -- ---- `a..=b` gives its numbers one by one
 

@@ -7,7 +7,7 @@ use super::number::number_at;
 use super::reason::Reason;
 use super::word::{is_over, skip_blanks, word, word_end};
 use script::place::part;
-use text::names::{TEMPLATE_BYTES, put_template};
+use text::names::template;
 
 // No call has more fields.
 pub(crate) const FIELDS: usize = 3;
@@ -77,6 +77,7 @@ fn fields_from(
 }
 
 // The fields of a kind's call.
+#[tactic(auto, unfolding(crate::specs::Fields::fields_read))]
 pub(crate) fn read_fields(
     values: &mut [i32],
     kind: u8,
@@ -85,8 +86,6 @@ pub(crate) fn read_fields(
 ) -> Result<usize, Reason>
     ensures { read values.new result ≡ fields_read (length values.old) values.old kind line.now at }
 {
-    let mut names = [0u8; TEMPLATE_BYTES];
-    let n = put_template(&mut names, 0, kind);
-    let names = part(&names, 0, n);
+    let names = template(kind);
     fields_from(values, names, word_end(names, 0), line, at)
 }
