@@ -6,7 +6,6 @@ ghost use Rattle.assemble.specs.Read.{read};
 use super::number::number_at;
 use super::reason::Reason;
 use super::word::{is_over, skip_blanks, word, word_end};
-use script::place::part;
 use text::names::template;
 
 // No call has more fields.
@@ -36,7 +35,7 @@ fn field_of(name: &[u8], word: &[u8]) -> Result<i32, Reason>
     if word.len() <= n {
         return number_from(word, 0);
     }
-    if part(word, 0, n) == name {
+    if &word[..n] == name {
         number_from(word, n + 1)
     } else {
         Err(Reason::OtherField)
