@@ -1,10 +1,17 @@
 -- A text line by line. Assumes nothing.
-use Rattle.std.proofs.Common.{◌≡◌, ◌∙◌, refl, sym, ap, ap₂, arith, ℕ, suc, ◌+◌, ◌≤◌, ◌<◌, Bool, true, false, cond, List, [], ◌∷◌, ◌++◌, length, take, drop, get_or, drop-cons, Bor, Option, Some, None, drop_of_length-le, length-take-le, Result, Ok, Err}
+use Rattle.std.proofs.Common.{◌≡◌, ◌∙◌, refl, sym, ap, ap₂, arith, ℕ, suc, ◌+◌, ◌≤◌, ◌<◌, Bool, true, false, cond, List, [], ◌∷◌, ◌++◌, length, take, drop, get_or, drop-cons, Bor, Option, Some, None, drop_of_length-le, length-take-le, eqb, Result, Ok, Err}
 use Rattle.std.proofs.Math.Seq.{take-paste, take-length}
 use Rattle.std.specs.Iterator.{Yields}
 use Rattle.std.specs.List.{enumerate_from}
 use Rattle.std.proofs.lemmas.Iterator.{YieldsList}
-use Rattle.std.proofs.lemmas.Iterator.Consumers.{YieldsList-turn, YieldsList-end}
+use Rattle.std.proofs.lemmas.Iterator.Consumers.{YieldsList-at, YieldsList-from_enumerate, YieldsList-turn, YieldsList-end}
+use Rattle.std.proofs.lemmas.Iterator.Splits.{YieldsList-from_slice_split}
+use Rattle.std.specs.Fn.{CalledAt}
+use Rattle.std.specs.Iterator.Adapters.{enumerate_source, enumerate_count, enumerate_steps}
+use Rattle.std.specs.Slice.Iter.{split_rest, split_done, split_callee, split_steps}
+use Rattle.core.specs.declared.iter.adapters.Enumerate.{Enumerate}
+use Rattle.core.specs.declared.slice.cuts.Split.{Split}
+use denote.Param.Members.{Mut}
 use Rattle.std.proofs.lemmas.List.FromFn.{length-enumerate_from, get_or-enumerate_from}
 use Rattle.model.proofs.Terms.{script_bytes, leb-true}
 use Rattle.script.specs.Place.{room, placed}
@@ -133,3 +140,11 @@ module _ {S : Type 0} {steps : S → Option (ℕ × Bor (List ℕ)) → S → Ty
 
   pub last-turn : r ≡ None → (ls : List (List ℕ)) → YieldsList steps (λ p. (p.0, p.1.now)) s (enumerate_from 0 ls) → length ls ≤ length xs
   last-turn e ls road = let k = YieldsList-end road xs t y r u e st in omega (arith, k.1, length-enumerate_from 0 ls)
+
+-- the lines of a text with their places, as the loop takes them
+pub lines-road : {F : Type 0} (g : Mut F (Bor ℕ × Unit {0}) Bool) {f : F} {cut : Split ℕ F} {numbered taken : Enumerate (Split ℕ F)} (text : List ℕ)
+    → taken ≡ numbered → enumerate_source numbered ≡ cut → enumerate_count numbered ≡ 0 → split_rest cut ≡ text → split_done cut ≡ false → split_callee cut ≡ f
+    → ((x : ℕ) (b : Bool) (q : F) → CalledAt g f x b q → (q ≡ f) × (b ≡ eqb x 10))
+    → YieldsList (enumerate_steps (split_steps g)) (λ p. (p.0, p.1.now)) taken (enumerate_from 0 (lines_of text))
+lines-road g text t e n r d k ends =
+    YieldsList-at t (YieldsList-from_enumerate (YieldsList-at e (YieldsList-from_slice_split g (λ b. eqb b 10) text r d k ends)) n)
