@@ -15,14 +15,6 @@ use Rattle.assemble.specs.declared.reason.Reason.{Reason}
 use Rattle.assemble.specs.declared.reason.Reason.TheVariants.{UnknownCall, FieldMissing, OtherField, NotANumber, BadMessage, LongMessage, LeftOver, LongScript}
 use Rattle.assemble.specs.Reasons.{longer_than, reason_text, report, long_text, report_bytes}
 
--- a match's arm
-module _ (reason k : Reason) (area after : List ℕ) (at next : ℕ) (e : reason ≡ k) where
-  pub arm : Appends area at (reason_text k) after next → Wrote area at (reason_text reason) after next
-  arm p = rw e (wrote p)
-
-  pub arm-longer : Wrote area at (reason_text k) after next → Wrote area at (reason_text reason) after next
-  arm-longer p = rw e p
-
 -- no reason, and no report, is longer than the area for it
 longer-short : (what : List ℕ) (most : ℕ) → length what ≤ 11 → length (longer_than what most) ≤ 53
 unfolding longer_than
@@ -73,5 +65,3 @@ pub long-text-put : (most : ℕ) (area a b : List ℕ) (i j : ℕ) → Wrote are
 unfolding long_text
 long-text-put most area a b i j p q size =
     is_front (let h : length (long_text most) ≤ length area = omega (arith, long-text-short most) in h) (wrote-more p (wrote q))
-
-pub ruleset reports = (arm, arm-longer, long-text-put)

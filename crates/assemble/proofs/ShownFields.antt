@@ -12,17 +12,18 @@ use lib.Signed.{mag}
 use lib.Dec.{eqb, ltb}
 use Rattle.model.proofs.Terms.{◌!◌, all, Fit, eq-eqb, ne_eqb, le-leb, leb-true, lt-ltb, ltb-true}
 use Rattle.text.specs.Numbers.{digit, digits_of, decimal, signed_decimal}
-use Rattle.assemble.specs.declared.number.Number.TheVariants.{Value as Is}
-use Rattle.assemble.specs.declared.reason.Step.TheVariants.{Next, Wrong}
-use Rattle.assemble.specs.declared.field.Field.{Field}
-use Rattle.assemble.specs.declared.field.Field.TheVariants.{Value, Wrong as WrongField}
-use Rattle.assemble.specs.Words.{is_blank, ends_word, run, word_start, word_length, word_end, word_at, is_over}
-use Rattle.assemble.specs.Numbers.{largest, is_digit, with_digit, magnitude, from_zero_up, below_zero, number_at}
-use Rattle.assemble.specs.Calls.{same}
+use Rattle.std.specs.Prelude.{Option, Some, Result, Ok, Err, ok_or, option_and_then, bytes_eq}
+use Rattle.std.specs.List.{prefix_len}
+use Rattle.assemble.specs.declared.reason.Reason.TheVariants.{NotANumber}
+use Rattle.assemble.specs.Words.{is_blank, ends_word, word_start, word_length, word_end, word_at, is_over}
+use Rattle.assemble.specs.Numbers.{largest, is_digit, with_digit, and_digit, magnitude, from_zero_up, below_zero, number_at}
 use Rattle.assemble.specs.Read.{Read, read}
-use Rattle.assemble.specs.Fields.{in_name, name_length, numbered, number_from, field_of, field_at, fields_from}
-use Rattle.assemble.specs.Assembled.{in_line}
-use Rattle.assemble.proofs.Digits.{digit-more}
+use Rattle.assemble.specs.Fields.{in_name, name_length, number_from, field_of, field_at, fields_from}
+use Rattle.assemble.proofs.Fielding.{by_field}
+
+-- what a line is made of
+abbrev pub in_line : ℕ → Bool
+in_line c = not (eqb c 10)
 
 -- ---- tests of every byte
 
@@ -48,10 +49,10 @@ abbrev pub Stops : (ℕ → Bool) → List ℕ → Type 0
 Stops p [] = Unit {0}
 Stops p (c ∷ l) = p c ≡ false
 
-pub run_is : (p : ℕ → Bool) (w tail : List ℕ) → all p w ≡ true → Stops p tail → run p (w ++ tail) ≡ length w
+pub run_is : (p : ℕ → Bool) (w tail : List ℕ) → all p w ≡ true → Stops p tail → prefix_len p (w ++ tail) ≡ length w
 run_is p [] [] h s = refl
 run_is p [] (c ∷ t) h s = rw s refl
-run_is p (c ∷ w) tail h s = let e = both (p c) (all p w) h in rw e.0 (ap suc (run_is p w tail e.1 s))
+run_is p (c ∷ w) tail h s = let e = both (p c) (all p w) h in rw e.0 (omega (arith, run_is p w tail e.1 s))
 
 abbrev pub in_word : ℕ → Bool
 in_word c = not (ends_word c)
@@ -67,7 +68,7 @@ module _ (line : List ℕ) (at : ℕ) (w tail : List ℕ) (here : drop at line �
   module _ (word : all in_word w ≡ true) (end : Stops in_word tail) where
     word-long : word_length line at ≡ length w
     unfolding word_length
-    word-long = ap (run in_word) here ∙ run_is in_word w tail word end
+    word-long = ap (prefix_len in_word) here ∙ run_is in_word w tail word end
 
     pub the_word : word_at line at ≡ w
     unfolding word_at
@@ -79,7 +80,7 @@ module _ (line : List ℕ) (at : ℕ) (w tail : List ℕ) (here : drop at line �
 
 pub one-blank : (line : List ℕ) (at : ℕ) (l : List ℕ) → drop at line ≡ 32 ∷ l → Stops is_blank l → word_start line at ≡ at + 1
 unfolding word_start
-one-blank line at l h s = ap (λ (x : List ℕ). at + run is_blank x) h ∙ ap (λ (n : ℕ). at + n) (run_is is_blank (32 ∷ []) l refl s)
+one-blank line at l h s = ap (λ (x : List ℕ). at + prefix_len is_blank x) h ∙ ap (λ (n : ℕ). at + n) (run_is is_blank (32 ∷ []) l refl s)
 
 -- ---- letters
 
@@ -133,29 +134,30 @@ all_digits : (most n : ℕ) → all is_digit (digits_of most n) ≡ true
 all_digits zero n = refl
 all_digits (suc most) n = digits-by most n (ltb n 10) refl (all_digits most (n / 10))
 
-one_more : (n d : ℕ) → d < 10 → 10 * n + d ≤ largest → with_digit n (digit d) ≡ 10 * n + d
+one_more : (n d : ℕ) → d < 10 → 10 * n + d ≤ largest → with_digit n (digit d) ≡ Some (10 * n + d)
+unfolding with_digit
 one_more n d h l =
-    let e : n * 10 + (48 + d - 48) ≡ 10 * n + d = omega arith in
-    sym (digit-more n (48 + d) (λ k. omega (arith, k)) (omega arith) (omega arith) (omega arith)) ∙ e
+    let e : 10 * n + (48 + d - 48) ≡ 10 * n + d = omega arith in
+    rw (le-leb 48 (48 + d) (omega arith), le-leb (48 + d) 57 (omega arith), le-leb (10 * n + (48 + d - 48)) largest (omega arith), with_digit) (ap Some e)
 
 power : (k : ℕ) → 10 ^ suc k ≡ 10 * 10 ^ k
 power k = pow.suc 10 k ∙ omega arith
 
-back_by : (most n : ℕ) (b : Bool) → ltb n 10 ≡ b → n ≤ largest → foldl with_digit 0 (digits_of most (n / 10)) ≡ n / 10
-    → foldl with_digit 0 (cond b (digit n ∷ []) (digits_of most (n / 10) ++ (digit (n % 10) ∷ []))) ≡ n
-back_by most n true e l h = one_more 0 n (ltb-true n 10 e) (omega arith) ∙ omega arith
+back_by : (most n : ℕ) (b : Bool) → ltb n 10 ≡ b → n ≤ largest → foldl and_digit (Some 0) (digits_of most (n / 10)) ≡ Some (n / 10)
+    → foldl and_digit (Some 0) (cond b (digit n ∷ []) (digits_of most (n / 10) ++ (digit (n % 10) ∷ []))) ≡ Some n
+back_by most n true e l h = one_more 0 n (ltb-true n 10 e) (omega arith) ∙ ap Some (let z : 10 * 0 + n ≡ n = omega arith in z)
 back_by most n false e l h =
     let whole : 10 * (n / 10) + n % 10 ≡ n = omega arith in
-    foldl-append with_digit 0 (digits_of most (n / 10)) (digit (n % 10) ∷ []) ∙ ap (λ (m : ℕ). with_digit m (digit (n % 10))) h
-    ∙ one_more (n / 10) (n % 10) (omega arith) (omega arith) ∙ whole
+    foldl-append and_digit (Some 0) (digits_of most (n / 10)) (digit (n % 10) ∷ []) ∙ ap (λ (m : Option ℕ). and_digit m (digit (n % 10))) h
+    ∙ one_more (n / 10) (n % 10) (omega arith) (omega arith) ∙ ap Some whole
 
-digits-back : (most n : ℕ) → n < 10 ^ most → n ≤ largest → foldl with_digit 0 (digits_of most n) ≡ n
-digits-back zero n h l = omega arith
+digits-back : (most n : ℕ) → n < 10 ^ most → n ≤ largest → foldl and_digit (Some 0) (digits_of most n) ≡ Some n
+digits-back zero n h l = ap Some (let z : 0 ≡ n = omega arith in z)
 digits-back (suc most) n h l =
     let p = power most in
     back_by most n (ltb n 10) refl l (digits-back most (n / 10) (omega (arith, p)) (omega arith))
 
-decimal-back : (n : ℕ) → n ≤ largest → foldl with_digit 0 (decimal n) ≡ n
+decimal-back : (n : ℕ) → n ≤ largest → foldl and_digit (Some 0) (decimal n) ≡ Some n
 unfolding decimal
 decimal-back n l = digits-back 20 n (omega arith) l
 
@@ -182,22 +184,22 @@ module _ (l : List ℕ) (at c : ℕ) (rest : List ℕ) (here : drop at l ≡ c �
   pub next-stands : drop (at + 1) l ≡ rest
   next-stands = behind l at (c ∷ []) rest here
 
-magnitude-back : (w : List ℕ) (from n : ℕ) (ds : List ℕ) → drop from w ≡ decimal n → ds ≡ decimal n → n ≤ largest → magnitude w from ≡ n
+magnitude-back : (w : List ℕ) (from n : ℕ) (ds : List ℕ) → drop from w ≡ decimal n → ds ≡ decimal n → n ≤ largest → magnitude w from ≡ Some n
 unfolding magnitude
 magnitude-back w from n [] h e l = absurd (omega (arith, ap length e, decimal-some n))
 magnitude-back w from n (d ∷ ds) h e l =
-    rw (lt-ltb from (length w) (stands w from d ds (h ∙ sym e)), magnitude) (ap (foldl with_digit 0) h ∙ decimal-back n l)
+    rw (lt-ltb from (length w) (stands w from d ds (h ∙ sym e)), magnitude) (ap (foldl and_digit (Some 0)) h ∙ decimal-back n l)
 
-below-back : (n : ℕ) → n < largest → below_zero (suc n) ≡ Is (negsuc n)
+below-back : (n : ℕ) → n < largest → below_zero (suc n) ≡ Some (negsuc n)
 unfolding below_zero
 below-back n l = rw (le-leb (suc n) largest (omega arith), below_zero) refl
 
-up-back : (n : ℕ) → n < largest → from_zero_up n ≡ Is (pos n)
+up-back : (n : ℕ) → n < largest → from_zero_up n ≡ Some (pos n)
 unfolding from_zero_up
 up-back n l = rw (lt-ltb n largest l, from_zero_up) refl
 
 module _ (w : List ℕ) (from : ℕ) where
-  positive : (n : ℕ) (ds : List ℕ) → drop from w ≡ decimal n → ds ≡ decimal n → n < largest → number_at w from ≡ Is (pos n)
+  positive : (n : ℕ) (ds : List ℕ) → drop from w ≡ decimal n → ds ≡ decimal n → n < largest → number_at w from ≡ Some (pos n)
   unfolding number_at
   positive n [] h e l = absurd (omega (arith, ap length e, decimal-some n))
   positive n (d ∷ ds) h e l =
@@ -206,16 +208,16 @@ module _ (w : List ℕ) (from : ℕ) where
       let low : 48 ≤ d = leb-true 48 d (both _ _ (both (is_digit d) (all is_digit ds) all_are).0).0 in
       let there = stands-there w from d ds here in
       rw (lt-ltb from (length w) (stands w from d ds here), ne_eqb (w ! from) 45 (λ q. omega (arith, q, there)), number_at)
-      (ap from_zero_up (magnitude-back w from n (d ∷ ds) h e (omega arith)) ∙ up-back n l)
+      (ap (option_and_then from_zero_up) (magnitude-back w from n (d ∷ ds) h e (omega arith)) ∙ up-back n l)
 
-  negative : (n : ℕ) → drop from w ≡ 45 ∷ decimal (suc n) → n < largest → number_at w from ≡ Is (negsuc n)
+  negative : (n : ℕ) → drop from w ≡ 45 ∷ decimal (suc n) → n < largest → number_at w from ≡ Some (negsuc n)
   unfolding number_at
   negative n h l =
       let next = next-stands w from 45 (decimal (suc n)) h in
       rw (lt-ltb from (length w) (stands w from 45 (decimal (suc n)) h), eq-eqb (w ! from) 45 (stands-there w from 45 (decimal (suc n)) h), number_at)
-      (ap below_zero (magnitude-back w (from + 1) (suc n) (decimal (suc n)) next refl (omega arith)) ∙ below-back n l)
+      (ap (option_and_then below_zero) (magnitude-back w (from + 1) (suc n) (decimal (suc n)) next refl (omega arith)) ∙ below-back n l)
 
-  pub number-back : (z : ℤ) → drop from w ≡ signed_decimal z → mag z < 2 ^ 31 → number_at w from ≡ Is z
+  pub number-back : (z : ℤ) → drop from w ≡ signed_decimal z → mag z < 2 ^ 31 → number_at w from ≡ Some z
   unfolding signed_decimal
   number-back (pos n) h l = positive n (decimal n) h refl l
   number-back (negsuc n) h l = negative n h l
@@ -227,7 +229,7 @@ signed-in-word (negsuc n) = all_so is_digit in_word (decimal (suc n)) digit-in-w
 
 -- ---- a field
 
-pub same_self : (l : List ℕ) → same l l ≡ true
+pub same_self : (l : List ℕ) → bytes_eq l l ≡ true
 same_self [] = refl
 same_self (c ∷ l) = rw (eq-eqb c c refl) (same_self l)
 
@@ -240,18 +242,18 @@ module _ (name : List ℕ) (z : ℤ) (ok : all letter name ≡ true) (fits : mag
   unfolding name_length
   name-long = run_is in_name name (61 ∷ signed_decimal z) (letters-in-name name ok) refl
 
-  number-there : number_from word (length name + 1) ≡ Value z
+  number-there : number_from word (length name + 1) ≡ Ok z
   unfolding number_from
   number-there =
       let at-equals : drop (length name) word ≡ 61 ∷ signed_decimal z = drop_at name (61 ∷ signed_decimal z) (length name) refl in
-      ap numbered (number-back word (length name + 1) z (next-stands word (length name) 61 (signed_decimal z) at-equals) fits)
+      ap (λ (m : Option ℤ). ok_or m NotANumber) (number-back word (length name + 1) z (next-stands word (length name) 61 (signed_decimal z) at-equals) fits)
 
-  word-is-field : field_of name word ≡ Value z
+  word-is-field : field_of name word ≡ Ok z
   unfolding field_of
   word-is-field =
       let longer : length name < length word = omega (arith, length-append name (61 ∷ signed_decimal z)) in
-      let its : same (take (length name) word) name ≡ true =
-      ap (λ (l : List ℕ). same l name) (take_at name (61 ∷ signed_decimal z) (length name) refl) ∙ same_self name in
+      let its : bytes_eq (take (length name) word) name ≡ true =
+      ap (λ (l : List ℕ). bytes_eq l name) (take_at name (61 ∷ signed_decimal z) (length name) refl) ∙ same_self name in
       rw (field_of, name-long, lt-ltb (length name) (length word) longer, its) number-there
 
   word-in-word : all in_word word ≡ true
@@ -271,7 +273,7 @@ module _ (name : List ℕ) (z : ℤ) (ok : all letter name ≡ true) (fits : mag
     word-there : drop (word_start line at) line ≡ word ++ tail
     word-there = from_start ∙ sym (append_assoc name (61 ∷ signed_decimal z) tail)
 
-    pub field_back : field_at name line (word_start line at) ≡ Value z
+    pub field_back : field_at name line (word_start line at) ≡ Ok z
     unfolding field_at
     field_back =
         rw (field_at, ap is_over from_start ∙ begins.1)
@@ -316,7 +318,7 @@ puts values i (z ∷ zs) = puts (set values i z) (suc i) zs
 
 pub record FieldsBack (r : Read ℤ) (values : List ℤ) (line tail : List ℕ) : Type 0 where
   pub end : ℕ
-  pub is : r ≡ read values (Next end)
+  pub is : r ≡ read values (Ok end)
   pub rest : drop end line ≡ tail
 
 pub spaced-stops : (ws : List (List ℕ)) → Stops in_word (spaced ws)
@@ -327,13 +329,6 @@ pub shown-stops : (ws : List (List ℕ)) (zs : List ℤ) (tail : List ℕ) → S
 shown-stops [] zs tail s = s
 shown-stops (w ∷ ws) [] tail s = s
 shown-stops (w ∷ ws) (z ∷ zs) tail s = refl
-
-abbrev by_field : ℕ → ℕ → List ℤ → List ℕ → ℕ → List ℕ → ℕ → Field → Read ℤ
-by_field n i values names t line at x =
-    elim x [
-      | WrongField why ↦ read values (Wrong why)
-      | Value z ↦ fields_from n (suc i) (set values i z) names (word_end names (word_start names t)) line (word_end line (word_start line at))
-    ]
 
 pub fields_back : (ws : List (List ℕ)) (zs values : List ℤ) (i : ℕ) (names : List ℕ) (t : ℕ) (line : List ℕ) (at : ℕ) (tail : List ℕ)
     → drop t names ≡ spaced ws → drop at line ≡ shown ws zs tail → length ws ≡ length zs → all is_name ws ≡ true → Fit zs → Stops in_word tail
@@ -351,9 +346,9 @@ fields_back (w ∷ ws) (z ∷ zs) values i names t line at tail hn hl long ok fi
     ap (λ (n : ℕ). drop n names) (one-blank names t (w ++ spaced ws) hn (name-begins w (spaced ws) k.0).0) ∙ next-stands names t 32 (w ++ spaced ws) hn in
     let in-word = letters-in-word w letters in
     let its-name = the_word names (word_start names t) w (spaced ws) name-start in-word (spaced-stops ws) in
-    let f : field_at (word_at names (word_start names t)) line (word_start line at) ≡ Value z =
+    let f : field_at (word_at names (word_start names t)) line (word_start line at) ≡ Ok z =
     ap (λ (x : List ℕ). field_at x line (word_start line at)) its-name ∙ field_back w z letters fit.0 line at more here stops in
     let r = fields_back ws zs (set values i z) (suc i) names (word_end names (word_start names t)) line (word_end line (word_start line at)) tail
     (behind-word names (word_start names t) w (spaced ws) name-start in-word (spaced-stops ws))
     (behind-field w z letters fit.0 line at more here stops) (omega arith) k.1 fit.1 s
-    in record { end = r.end; is = ap (by_field (length ws) i values names t line at) f ∙ r.is; rest = r.rest }
+    in record { end = r.end; is = ap (by_field (length ws) i values names (word_end names (word_start names t)) line (word_end line (word_start line at))) f ∙ r.is; rest = r.rest }

@@ -5,18 +5,19 @@ use native.Mathlib.Omega.{arith}
 use mathlib.Core.Path.{◌≡◌, ◌∙◌, refl, sym, ap, ap₂}
 use mathlib.Core.Bool.{Bool, true, false, ◌||◌, cond, false≢true}
 use mathlib.Core.List.{List, [], ◌∷◌, ◌++◌, map, append_assoc, append-nil}
-use mathlib.Core.Option.{Option, none, some}
+use mathlib.Core.Option as maybe
+use mathlib.Core.Option.{none, some}
+use Rattle.std.specs.Prelude.{Option, Some, None, Ok}
+use Rattle.std.specs.List.{prefix_len}
 use lib.ListN.{length, take, drop, length-map}
 use lib.IntN.{ℤ}
 use lib.Dec.{eqb, leb}
 use Rattle.model.specs.declared.call.Call.{Call}
 use Rattle.model.specs.declared.call.Call.TheVariants.{CreTsk, DelTsk, StaTsk, ExtTsk, TerTsk, ChgPri, CreMtx, DelMtx, LocMtx, UnlMtx, CreMbf, DelMbf, SndMbf, RcvMbf, CreMpf, DelMpf, GetMpf, RelMpf, Tick}
-use Rattle.model.specs.declared.kind.BodyLength.{BodyLength}
-use Rattle.model.specs.declared.kind.BodyLength.TheVariants.{Bytes as Long, Unknown}
 use Rattle.model.specs.Record.{Row, kinds, row_of, body_length, field, message_here, kind_of, fields_of, FieldsFit, record_bytes}
 use Rattle.model.specs.Code.{code_bytes}
 use Rattle.model.proofs.Terms.{◌!◌, all, joined, count_from, zeros, message_bytes, le-leb}
-use Rattle.script.specs.declared.body.Body.TheVariants.{Parts}
+use Rattle.script.specs.declared.body.Body.{Body}
 use Rattle.script.specs.Body.{body_parts, call_in}
 use Rattle.script.specs.Write.{message_length}
 use Rattle.script.proofs.Rows.{row-of-parts, message-size, fields_made}
@@ -25,18 +26,14 @@ use Rattle.script.proofs.RoundTrip.{written-reads, message-reads}
 use Rattle.text.specs.Names.{template}
 use Rattle.text.specs.Numbers.{signed_decimal}
 use Rattle.text.specs.Place.{word_value, letter as letter_text, with_values, message_text, call_text, unknown_text, cut_text, here_text}
-use Rattle.assemble.specs.declared.name.Named.{Named}
-use Rattle.assemble.specs.declared.name.Named.TheVariants.{Kind}
-use Rattle.assemble.specs.declared.reason.Step.TheVariants.{Next}
-use Rattle.assemble.specs.Words.{is_blank, run, word_start, word_end, word_at, is_over, compute_words}
+use Rattle.assemble.specs.Words.{is_blank, word_start, word_end, word_at, is_over, compute_words}
 use Rattle.assemble.specs.Read.{Read, read}
 use Rattle.assemble.specs.Calls.{kind_named, compute_calls}
 use Rattle.assemble.specs.Fields.{in_name, fields_read}
 use Rattle.assemble.specs.Messages.{message_read}
 use Rattle.assemble.specs.Lines.{Blank, Bytes, no_fields, with_message, with_fields, with_parts, call_line, with_kind, line_at, line_of}
-use Rattle.assemble.specs.Assembled.{in_line}
 use Rattle.assemble.specs.Statements.{ShownComesBack}
-use Rattle.assemble.proofs.ShownFields.{both, all_append, not-or, Stops, run_is, in_word, letter, is_name, name-letters, name-begins, letters-in-word, the_word, behind-word, spaced, spaced-stops, shown, shown-stops, shown-in-line, puts, FieldsBack, fields_back}
+use Rattle.assemble.proofs.ShownFields.{in_line, both, all_append, not-or, Stops, run_is, in_word, letter, is_name, name-letters, name-begins, letters-in-word, the_word, behind-word, spaced, spaced-stops, shown, shown-stops, shown-in-line, puts, FieldsBack, fields_back}
 use Rattle.assemble.proofs.ShownMessages.{Below, MessageBack, no-message-back, message-back, message-in-line}
 
 -- ---- every call's names, which antt computes
@@ -56,8 +53,8 @@ record Names (c : Call) : Type 0 where
   pub all-letters : all is_name words ≡ true
   pub in-line : all in_line name ≡ true
   pub all-in-line : all (all in_line) words ≡ true
-  pub named : kind_named name ≡ Kind (kind_of c)
-  pub parts : body_parts (kind_of c) ≡ Parts fields size
+  pub named : kind_named name ≡ Some (kind_of c)
+  pub body : body_parts (kind_of c) ≡ Some (record { fields = fields; message = size })
   pub few : fields / 4 ≡ length words
   pub many : length words ≡ length (fields_of c)
   pub long : message_length (kind_of c) ≡ size
@@ -68,7 +65,7 @@ module _ (c : Call) where
   its = cut (template (kind_of c))
 
   told : {fields size : ℕ} → template (kind_of c) ≡ its.0 ++ spaced its.1 → is_name its.0 ≡ true → all is_name its.1 ≡ true → all in_line its.0 ≡ true → all (all in_line) its.1 ≡ true
-      → kind_named its.0 ≡ Kind (kind_of c) → body_parts (kind_of c) ≡ Parts fields size → fields / 4 ≡ length its.1
+      → kind_named its.0 ≡ Some (kind_of c) → body_parts (kind_of c) ≡ Some (record { fields = fields; message = size }) → fields / 4 ≡ length its.1
       → length its.1 ≡ length (fields_of c) → message_length (kind_of c) ≡ size → call_in kinds (kind_of c) (puts no_fields 0 (fields_of c)) ≡ c → Names c
   told {fields} {size} a b d k l e f g h i j = record {
     name = its.0;
@@ -81,7 +78,7 @@ module _ (c : Call) where
     in-line = k;
     all-in-line = l;
     named = e;
-    parts = f;
+    body = f;
     few = g;
     many = h;
     long = i;
@@ -171,7 +168,7 @@ module _ (c : Call) where
 
   with-message : (k : ℕ) → n.size ≡ suc k → n.size ≡ message_bytes
   with-message k e =
-      let p = row-of-parts kind n.fields n.size n.parts in
+      let p = row-of-parts kind (record { fields = n.fields; message = n.size }) n.body in
       whole-size (eqb p.row.kind 0x22) n.size k (sym p.message ∙ message-size kind p.row p.is) e
 
   message-there : (message line : List ℕ) (at : ℕ) → length message ≡ n.size → Below message → drop at line ≡ message_text message
@@ -200,7 +197,7 @@ module _ (c : Call) where
 
     start : word_start line 0 ≡ 0
     unfolding word_start
-    start = ap (λ (l : List ℕ). 0 + run is_blank l) e ∙ ap (λ (k : ℕ). 0 + k) (run_is is_blank [] (n.name ++ values) refl begins.0)
+    start = ap (λ (l : List ℕ). 0 + prefix_len is_blank l) e ∙ ap (λ (k : ℕ). 0 + k) (run_is is_blank [] (n.name ++ values) refl begins.0)
 
     in-word : all in_word n.name ≡ true
     in-word = letters-in-word n.name (name-letters n.name n.letters)
@@ -213,7 +210,7 @@ module _ (c : Call) where
     call-is =
         ap (λ (k : ℕ). cond (is_over (drop k line)) Blank (with_kind line (word_end line k) (kind_named (word_at line k)))) start
         ∙ ap (λ (b : Bool). cond b Blank (with_kind line (word_end line 0) (kind_named (word_at line 0)))) (ap is_over e ∙ begins.1)
-        ∙ ap (λ (x : Named). with_kind line (word_end line 0) x) (ap kind_named (the_word line 0 n.name values e in-word stops) ∙ n.named)
+        ∙ ap (λ (x : Option ℕ). with_kind line (word_end line 0) x) (ap kind_named (the_word line 0 n.name values e in-word stops) ∙ n.named)
 
     read_back : FieldsBack (fields_read (n.fields / 4) no_fields kind line (word_end line 0)) (puts no_fields 0 (fields_of c)) line tail
     unfolding fields_read
@@ -224,11 +221,11 @@ module _ (c : Call) where
         n.many n.all-letters fit (message-stops message))
 
     ends : (area : List ℕ) (end : ℕ) → drop end line ≡ [] → take n.size area ≡ message
-        → with_message c n.size line (read area (Next end)) ≡ Bytes (record_bytes c message)
+        → with_message c n.size line (read area (Ok end)) ≡ Bytes (record_bytes c message)
     unfolding word_start
     ends area end h b =
-        let over : is_over (drop (end + run is_blank (drop end line)) line) ≡ true =
-        ap (λ (l : List ℕ). is_over (drop (end + run is_blank l) line)) h ∙ ap (λ (k : ℕ). is_over (drop k line)) (add-zero end) ∙ ap is_over h in
+        let over : is_over (drop (end + prefix_len is_blank (drop end line)) line) ≡ true =
+        ap (λ (l : List ℕ). is_over (drop (end + prefix_len is_blank l) line)) h ∙ ap (λ (k : ℕ). is_over (drop k line)) (add-zero end) ∙ ap is_over h in
         rw over (ap (λ (m : List ℕ). Bytes (record_bytes c m)) b)
 
     line-back : line_of line ≡ Bytes (record_bytes c message)
@@ -236,19 +233,19 @@ module _ (c : Call) where
     line-back =
         let f = read_back in
         let m = message-there message line f.end long bytes f.rest in
-        call-is ∙ ap (with_parts kind line (word_end line 0)) n.parts
+        call-is ∙ ap (with_parts kind line (word_end line 0)) n.body
         ∙ ap (λ (x : Read ℤ). with_fields kind n.size line x.area x.step) f.is
         ∙ ap (λ (d : Call). with_message d n.size line (message_read (zeros message_bytes) n.size line f.end)) n.made
         ∙ ap (with_message c n.size line) m.is ∙ ends m.area m.end m.rest m.bytes
 
 -- ---- what stands at a place
 
-abbrev length_of : Option Row → BodyLength
-length_of found = elim found [ none ↦ Unknown | some r ↦ Long r.body ]
+abbrev length_of : maybe.Option Row → Option ℕ
+length_of found = elim found [ none ↦ None | some r ↦ Some r.body ]
 
-abbrev text_by : ℕ → List ℕ → BodyLength → List ℕ
+abbrev text_by : ℕ → List ℕ → Option ℕ → List ℕ
 text_by kind body x =
-    elim x [ Unknown ↦ unknown_text kind | Long n ↦ cond (leb n (length body)) (call_text kind body) (cut_text kind n (length body)) ]
+    elim x [ None ↦ unknown_text kind | Some n ↦ cond (leb n (length body)) (call_text kind body) (cut_text kind n (length body)) ]
 
 call-text : (kind : ℕ) (body : List ℕ) (r : Row) → row_of kind ≡ some r → r.body ≤ length body → here_text (kind ∷ body) ≡ call_text kind body
 unfolding here_text body_length

@@ -7,35 +7,63 @@ use mathlib.Core.List.{List, [], ◌∷◌, ◌++◌, map, append_assoc}
 use lib.ListN.{length, take, drop, set, length-append}
 use lib.Seq.{take_all}
 use lib.Dec.{ltb}
-use Rattle.model.proofs.Terms.{◌!◌, all, zeros, joined, message_bytes, ne_eqb, ltb-true, ltb-false}
+use Rattle.model.proofs.Terms.{◌!◌, all, zeros, joined, message_bytes, eq-eqb, ne_eqb, le-leb, lt-leb, lt-ltb, ltb-true, ltb-false}
 use Rattle.text.specs.Numbers.{hex_digit}
 use Rattle.text.specs.Numbers.{hex_byte as hex_text}
 use Rattle.text.specs.Quoted.{plain, shown_byte, before, trimmed, quoted}
 use Rattle.text.specs.Place.{message_text}
 use Rattle.assemble.specs.declared.message.Piece.{Piece}
-use Rattle.assemble.specs.declared.message.Piece.TheVariants.{Byte, End, Bad}
+use Rattle.assemble.specs.declared.message.Piece.TheVariants.{Byte, End}
+use Rattle.std.specs.Prelude.{Option, Some, None, Ok, Err, ok_or}
 use Rattle.assemble.specs.declared.reason.Reason.TheVariants.{BadMessage}
-use Rattle.assemble.specs.declared.reason.Step.TheVariants.{Next, Wrong}
 use Rattle.assemble.specs.Words.{word_start}
 use Rattle.assemble.specs.Read.{Read, read}
-use Rattle.assemble.specs.Messages.{hex_value, hex_byte, quoted_piece, ended, bytes_from, message_at, message_read}
-use Rattle.assemble.specs.Assembled.{in_line}
-use Rattle.assemble.proofs.Pieces.{digit, capital, both, quote-ends, itself, escape, in-quotes}
-use Rattle.assemble.proofs.ShownFields.{and-true, all_append, behind, one-blank, stands, stands-there, next-stands}
+use Rattle.assemble.specs.Messages.{hex_value, hex_byte, escaped, quoted_piece, ended, bytes_from, message_at, message_read}
+use Rattle.assemble.proofs.Pieces.{by-piece}
+use Rattle.assemble.proofs.ShownFields.{in_line, and-true, all_append, behind, one-blank, stands, stands-there, next-stands}
 
 -- ---- a byte
 
-digit-back : (d : ℕ) → d < 16 → hex_value (hex_digit d) ≡ d
+hex-low : (d : ℕ) → d < 10 → hex_value (48 + d) ≡ Some d
+unfolding hex_value
+hex-low d h = rw (le-leb 48 (48 + d) (omega arith), le-leb (48 + d) 57 (omega arith), hex_value) (ap Some (let e : 48 + d - 48 ≡ d = omega arith in e))
+
+hex-high : (d : ℕ) → 10 ≤ d → d < 16 → hex_value (55 + d) ≡ Some d
+unfolding hex_value
+hex-high d l h =
+    rw (le-leb 48 (55 + d) (omega arith), lt-leb (55 + d) 57 (omega arith), le-leb 65 (55 + d) (omega arith), le-leb (55 + d) 70 (omega arith), hex_value)
+    (ap Some (let e : 55 + d - 55 ≡ d = omega arith in e))
+
+digit-back : (d : ℕ) → d < 16 → hex_value (hex_digit d) ≡ Some d
 digit-back d h = by (ltb d 10) refl
   where
-    by : (b : Bool) → ltb d 10 ≡ b → hex_value (cond b (48 + d) (55 + d)) ≡ d
-    by true e = let l = ltb-true d 10 e in sym (digit (48 + d) (omega arith) (omega arith)) ∙ omega arith
-    by false e = let l = ltb-false d 10 e in sym (capital (55 + d) (omega arith) (omega arith)) ∙ omega arith
+    by : (b : Bool) → ltb d 10 ≡ b → hex_value (cond b (48 + d) (55 + d)) ≡ Some d
+    by true e = hex-low d (ltb-true d 10 e)
+    by false e = hex-high d (ltb-false d 10 e) h
+
+both : (high low next a b : ℕ) → hex_value high ≡ Some a → hex_value low ≡ Some b → hex_byte high low next ≡ Some (Byte (16 * a + b) next)
+unfolding hex_byte
+both high low next a b e f = rw (hex_byte, e, f) refl
+
+module _ (line : List ℕ) (at : ℕ) (here : at < length line) where
+  quote-ends : line ! at ≡ 34 → quoted_piece line at ≡ Some (End (at + 1))
+  unfolding quoted_piece
+  quote-ends e = rw (lt-ltb at (length line) here, eq-eqb (line ! at) 34 e, quoted_piece) refl
+
+  itself : (line ! at ≡ 34 → ⊥) → (line ! at ≡ 92 → ⊥) → quoted_piece line at ≡ Some (Byte (line ! at) (at + 1))
+  unfolding quoted_piece
+  itself q e = rw (lt-ltb at (length line) here, ne_eqb (line ! at) 34 q, ne_eqb (line ! at) 92 e, quoted_piece) refl
+
+  escape : line ! at ≡ 92 → at + 4 ≤ length line → line ! (at + 1) ≡ 120 → quoted_piece line at ≡ hex_byte (line ! (at + 2)) (line ! (at + 3)) (at + 4)
+  unfolding quoted_piece escaped
+  escape e h x =
+      rw (lt-ltb at (length line) here, ne_eqb (line ! at) 34 (λ q. omega (arith, q, e)), eq-eqb (line ! at) 92 e, quoted_piece)
+      (rw (le-leb (at + 4) (length line) h, eq-eqb (line ! (at + 1)) 120 x, escaped) refl)
 
 -- what a piece is, and what stands behind it
-pub record PieceBack (p : Piece) (b : ℕ) (line rest : List ℕ) : Type 0 where
+pub record PieceBack (p : Option Piece) (b : ℕ) (line rest : List ℕ) : Type 0 where
   pub next : ℕ
-  pub is : p ≡ Byte b next
+  pub is : p ≡ Some (Byte b next)
   pub behind : drop next line ≡ rest
 
 module _ (line : List ℕ) (at b : ℕ) (rest : List ℕ) (fits : b < 256) where
@@ -47,7 +75,7 @@ module _ (line : List ℕ) (at b : ℕ) (rest : List ℕ) (fits : b < 256) where
       let slash : line ! at ≡ 92 → ⊥ = λ e. false≢true (rw (sym there ∙ e) at p) in
       record {
         next = at + 1;
-        is = sym (itself line at (stands line at b rest h) quote slash) ∙ ap (λ (c : ℕ). Byte c (at + 1)) there;
+        is = itself line at (stands line at b rest h) quote slash ∙ ap (λ (c : ℕ). Some (Byte c (at + 1))) there;
         behind = next-stands line at b rest h;
       }
 
@@ -61,13 +89,13 @@ module _ (line : List ℕ) (at b : ℕ) (rest : List ℕ) (fits : b < 256) where
       let x = stands-there line (at + 1) 120 (hi ∷ (lo ∷ rest)) (next-stands line at 92 (120 ∷ (hi ∷ (lo ∷ rest))) h) in
       let last = stands line (at + 3) lo rest h₃ in
       let value : b ≡ 16 * (b / 16) + b % 16 = omega arith in
-      let two : Byte b (at + 4) ≡ hex_byte (line ! (at + 2)) (line ! (at + 3)) (at + 4) =
-      ap (λ (v : ℕ). Byte v (at + 4)) value
-      ∙ both hi lo (at + 4) (b / 16) (sym (digit-back (b / 16) (omega arith))) (b % 16) (sym (digit-back (b % 16) (omega arith))) (omega arith) (omega arith)
-      ∙ ap₂ (λ (u v : ℕ). hex_byte u v (at + 4)) (sym (stands-there line (at + 2) hi (lo ∷ rest) h₂)) (sym (stands-there line (at + 3) lo rest h₃)) in
+      let two : hex_byte (line ! (at + 2)) (line ! (at + 3)) (at + 4) ≡ Some (Byte b (at + 4)) =
+      ap₂ (λ (u v : ℕ). hex_byte u v (at + 4)) (stands-there line (at + 2) hi (lo ∷ rest) h₂) (stands-there line (at + 3) lo rest h₃)
+      ∙ both hi lo (at + 4) (b / 16) (b % 16) (digit-back (b / 16) (omega arith)) (digit-back (b % 16) (omega arith))
+      ∙ ap (λ (v : ℕ). Some (Byte v (at + 4))) (sym value) in
       record {
         next = at + 4;
-        is = sym (escape line at (omega arith) (λ e. omega (arith, e, slash)) (Byte b (at + 4)) slash (omega arith) x two);
+        is = escape line at (omega arith) slash (omega arith) x ∙ two;
         behind = behind line at (92 ∷ (120 ∷ (hi ∷ (lo ∷ [])))) rest h;
       }
 
@@ -93,28 +121,26 @@ set-behind (f ∷ front) x b rest = ap (λ (l : List ℕ). f ∷ l) (set-behind 
 
 pub record BytesBack (r : Read ℕ) (area line : List ℕ) : Type 0 where
   pub end : ℕ
-  pub is : r ≡ read area (Next end)
+  pub is : r ≡ read area (Ok end)
   pub rest : drop end line ≡ []
 
-abbrev by-piece : ℕ → ℕ → List ℕ → List ℕ → Piece → Read ℕ
-by-piece room n m line x =
-    elim x [
-      | Byte c next ↦ bytes_from true room (suc n) (set m n c) line next
-      | End next ↦ read m (Next next)
-      | Bad ↦ read m (Wrong BadMessage)
-    ]
+abbrev by-quoted : ℕ → ℕ → List ℕ → List ℕ → Option Piece → Read ℕ
+by-quoted room n m line p = by-piece true room n m line (ok_or p BadMessage)
 
-quoted-end : (line : List ℕ) (at : ℕ) → drop at line ≡ 34 ∷ [] → quoted_piece line at ≡ End (at + 1)
-quoted-end line at h = sym (quote-ends line at (stands line at 34 [] h) (stands-there line at 34 [] h))
+abbrev at-last : List ℕ → Option Piece → Read ℕ
+at-last m p = elim (ok_or p BadMessage) [ Ok x ↦ read m (ended x) | Err why ↦ read m (Err why) ]
+
+quoted-end : (line : List ℕ) (at : ℕ) → drop at line ≡ 34 ∷ [] → quoted_piece line at ≡ Some (End (at + 1))
+quoted-end line at h = quote-ends line at (stands line at 34 [] h) (stands-there line at 34 [] h)
 
 -- the quote, and then bytes before it
 none_left : (room : ℕ) (front line : List ℕ) (at : ℕ) → drop at line ≡ 34 ∷ []
     → BytesBack (bytes_from true room (length front) (front ++ zeros room) line at) (front ++ zeros room) line
 none_left zero front line at h =
-    record { end = at + 1; is = ap (λ (p : Piece). read (front ++ zeros 0) (ended p)) (quoted-end line at h); rest = next-stands line at 34 [] h }
+    record { end = at + 1; is = ap (at-last (front ++ zeros 0)) (quoted-end line at h); rest = next-stands line at 34 [] h }
 none_left (suc room) front line at h = record {
   end = at + 1;
-  is = ap (by-piece room (length front) (front ++ zeros (suc room)) line) (quoted-end line at h);
+  is = ap (by-quoted room (length front) (front ++ zeros (suc room)) line) (quoted-end line at h);
   rest = next-stands line at 34 [] h;
 }
 
@@ -123,7 +149,7 @@ pub bytes_back : (bs : List ℕ) (room : ℕ) (front line : List ℕ) (at : ℕ)
 bytes_back [] room front line at below few h =
     let same : room ≡ room - 0 = omega arith in
     let r = none_left room front line at h in
-    record { end = r.end; is = r.is ∙ ap (λ (k : ℕ). read (front ++ zeros k) (Next r.end)) same; rest = r.rest }
+    record { end = r.end; is = r.is ∙ ap (λ (k : ℕ). read (front ++ zeros k) (Ok r.end)) same; rest = r.rest }
 bytes_back (b ∷ bs) zero front line at below few h = absurd (omega arith)
 bytes_back (b ∷ bs) (suc room) front line at below few h =
     let more = joined (map shown_byte bs) ++ (34 ∷ []) in
@@ -135,10 +161,10 @@ bytes_back (b ∷ bs) (suc room) front line at below few h =
     let left : room - length bs ≡ suc room - suc (length bs) = omega arith in
     record {
       end = r.end;
-      is = ap (by-piece room (length front) (front ++ zeros (suc room)) line) p.is
+      is = ap (by-quoted room (length front) (front ++ zeros (suc room)) line) p.is
           ∙ ap₂ (λ (n : ℕ) (m : List ℕ). bytes_from true room n m line p.next) longer wider ∙ r.is
-          ∙ ap (λ (m : List ℕ). read m (Next r.end)) (append_assoc front (b ∷ []) (bs ++ zeros (room - length bs)))
-          ∙ ap (λ (k : ℕ). read (front ++ (b ∷ (bs ++ zeros k))) (Next r.end)) left;
+          ∙ ap (λ (m : List ℕ). read m (Ok r.end)) (append_assoc front (b ∷ []) (bs ++ zeros (room - length bs)))
+          ∙ ap (λ (k : ℕ). read (front ++ (b ∷ (bs ++ zeros k))) (Ok r.end)) left;
       rest = r.rest;
     }
 
@@ -182,9 +208,13 @@ trimmed-short m = omega (arith, ap length (trimmed-back m), length-append (trimm
 pub record MessageBack (r : Read ℕ) (size : ℕ) (message line : List ℕ) : Type 0 where
   pub end : ℕ
   pub area : List ℕ
-  pub is : r ≡ read area (Next end)
+  pub is : r ≡ read area (Ok end)
   pub bytes : take size area ≡ message
   pub rest : drop end line ≡ []
+
+in-quotes : (m line : List ℕ) (at : ℕ) → at < length line → line ! at ≡ 34 → message_at m line at ≡ bytes_from true (length m) 0 m line (at + 1)
+unfolding message_at
+in-quotes m line at here e = rw (lt-ltb at (length line) here, e, message_at) refl
 
 pub no-message-back : (m line : List ℕ) (at : ℕ) → drop at line ≡ [] → MessageBack (message_read m 0 line at) 0 [] line
 unfolding message_read
@@ -207,8 +237,8 @@ message-back b bs line at size below h =
       end = r.end;
       area = m;
       is = ap (message_at (zeros message_bytes) line) start
-          ∙ sym (in-quotes (zeros message_bytes) line (at + 1) (stands line (at + 1) 34 inner at-quote) (λ e. omega (arith, e, there)) m (Next r.end) there
-          (sym (r.is ∙ ap (λ (l : List ℕ). read l (Next r.end)) filled)));
+          ∙ in-quotes (zeros message_bytes) line (at + 1) (stands line (at + 1) 34 inner at-quote) there ∙ r.is
+          ∙ ap (λ (l : List ℕ). read l (Ok r.end)) filled;
       bytes = take_all message_bytes m (omega arith);
       rest = r.rest;
     }

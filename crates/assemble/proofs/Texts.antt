@@ -1,53 +1,27 @@
 -- A text line by line. Assumes nothing.
-use Prim.Native.Nat.{ℕ, suc, ◌+◌, ◌-◌, ◌≤◌, ◌<◌}
-use native.Mathlib.Omega.{arith}
-use mathlib.Core.Path.{◌≡◌, ◌∙◌, refl, sym, ap, ap₂}
-use mathlib.Core.Bool.{Bool, true, false, cond}
-use mathlib.Core.List.{List, [], ◌∷◌, ◌++◌}
-use lib.ListN.{length, take, drop, length-drop}
-use lib.Seq.{take-paste, take-length, drop-drop, length-take-le}
-use Rattle.model.proofs.Terms.{script_bytes, leb-true, dec_le}
+use Rattle.std.proofs.Common.{◌≡◌, ◌∙◌, refl, sym, ap, ap₂, arith, ℕ, suc, ◌+◌, ◌≤◌, ◌<◌, Bool, true, false, cond, List, [], ◌∷◌, ◌++◌, length, take, drop, get_or, drop-cons, Bor, Option, Some, None, drop_of_length-le, length-take-le, eqb, Result, Ok, Err}
+use Rattle.std.proofs.Math.Seq.{take-paste, take-length}
+use Rattle.std.specs.Iterator.{Yields}
+use Rattle.std.specs.List.{enumerate_from}
+use Rattle.std.proofs.lemmas.Iterator.{YieldsList}
+use Rattle.std.proofs.lemmas.Iterator.Consumers.{YieldsList-at, YieldsList-from_enumerate, YieldsList-turn, YieldsList-end}
+use Rattle.std.proofs.lemmas.Iterator.Splits.{YieldsList-from_slice_split}
+use Rattle.std.specs.Fn.{CalledAt}
+use Rattle.std.specs.Iterator.Adapters.{enumerate_source, enumerate_count, enumerate_steps}
+use Rattle.std.specs.Slice.Iter.{split_rest, split_done, split_callee, split_steps}
+use Rattle.core.specs.declared.iter.adapters.Enumerate.{Enumerate}
+use Rattle.core.specs.declared.slice.cuts.Split.{Split}
+use denote.Param.Members.{Mut}
+use Rattle.std.proofs.lemmas.List.FromFn.{length-enumerate_from, get_or-enumerate_from}
+use Rattle.model.proofs.Terms.{script_bytes, leb-true}
 use Rattle.script.specs.Place.{room, placed}
 use Rattle.script.proofs.Appending.{over-paste, placed-room, length_over}
+use Rattle.assemble.specs.declared.assembler.WrongLine.{WrongLine as Where}
 use Rattle.assemble.specs.declared.reason.Reason.{Reason}
 use Rattle.assemble.specs.declared.reason.Reason.TheVariants.{LongScript}
-use Rattle.assemble.specs.declared.reason.Step.{Step}
-use Rattle.assemble.specs.declared.reason.Step.TheVariants.{Next, Wrong}
-use Rattle.assemble.specs.declared.assembler.Outcome.TheVariants.{Script, Wrong as WrongText}
+use Rattle.assemble.specs.Read.{Step}
 use Rattle.assemble.specs.Lines.{Line, Blank, Bytes, Bad, line_of, Extends}
-use Rattle.assemble.specs.Assembled.{Assembly, Made, WrongLine, in_line, line_length, with_first, lines_of, assembled_from, assembled, outcome, Assembles}
-
--- the first line of a text, and those behind it, by whether a byte is in the line
-abbrev size_by : List ℕ → Bool → ℕ
-size_by t b = cond b (suc (line_length t)) 0
-
-abbrev lines_by : ℕ → List ℕ → Bool → List (List ℕ)
-lines_by c t b = cond b (with_first c (lines_of t)) ([] ∷ lines_of t)
-
-line-more : (t : List ℕ) → line_length t < length t → lines_of t ≡ take (line_length t) t ∷ lines_of (drop (suc (line_length t)) t)
-unfolding line_length
-line-more [] h = absurd (omega arith)
-line-more (c ∷ t) h =
-    elim (in_line c) as (λ b. size_by t b < suc (length t) → lines_by c t b ≡ take (size_by t b) (c ∷ t) ∷ lines_of (drop (suc (size_by t b)) (c ∷ t)))
-    [ true ↦ (λ l. ap (with_first c) (line-more t (omega arith))) | false ↦ (λ l. refl) ] h
-
-line-last : (t : List ℕ) → length t ≤ line_length t → lines_of t ≡ take (line_length t) t ∷ []
-unfolding line_length
-line-last [] h = refl
-line-last (c ∷ t) h =
-    elim (in_line c) as (λ b. suc (length t) ≤ size_by t b → lines_by c t b ≡ take (size_by t b) (c ∷ t) ∷ [])
-    [ true ↦ (λ l. ap (with_first c) (line-last t (omega arith))) | false ↦ (λ l. absurd (omega arith)) ] h
-
-record First (t : List ℕ) : Type 0 where
-  pub behind : List (List ℕ)
-  pub is : lines_of t ≡ take (line_length t) t ∷ behind
-
-first-line : (t : List ℕ) → First t
-first-line t =
-    elim (dec_le (length t) (line_length t)) [
-      | yes h ↦ record { behind = []; is = line-last t h }
-      | no h ↦ record { behind = lines_of (drop (suc (line_length t)) t); is = line-more t (omega (arith, h)) }
-    ]
+use Rattle.assemble.specs.Assembled.{Assembly, Made, WrongLine, lines_of, assembled_from, assembled, outcome, Assembles}
 
 -- what a line does to the script that is made already
 abbrev pub by-line : ℕ → List ℕ → List (List ℕ) → Line → Assembly
@@ -76,7 +50,7 @@ module _ (s : List ℕ) (size : length s ≡ script_bytes) (at : ℕ) (inside : 
   room-is b = ap₂ (λ (x y : ℕ). room x y (length b)) (sym size) made-length
 
   next-bytes : (b after : List ℕ) (n : ℕ) (t : Bool) → room (length s) at (length b) ≡ t
-      → Next n ≡ cond t (Next (at + length b)) (Wrong LongScript) → after ≡ placed s at b
+      → ◌≡◌ {A = Step} (Ok n) (cond t (Ok (at + length b)) (Err LongScript)) → after ≡ placed s at b
       → Went s after n ls line (cond t (assembled_from (suc line) (take at s ++ b) ls) (WrongLine line LongScript))
   next-bytes b after n true e p q =
       let h : at + length b ≤ length s = leb-true (at + length b) (length s) e in
@@ -87,9 +61,9 @@ module _ (s : List ℕ) (size : length s ≡ script_bytes) (at : ℕ) (inside : 
         inside = omega arith;
         whole = ap (λ (m : List ℕ). assembled_from (suc line) m ls) (sym (front s at b h) ∙ ap₂ take (sym en) (sym q));
       }
-  next-bytes b after n false e p q = absurd (let z : ◌≡◌ {A = ℕ} 0 1 = cc in omega arith)
+  next-bytes b after n false e p q = cc
 
-  went : (x : Line) (after : List ℕ) (n : ℕ) → Extends s at x after (Next n) → Went s after n ls line (by-line line (take at s) ls x)
+  went : (x : Line) (after : List ℕ) (n : ℕ) → Extends s at x after (Ok n) → Went s after n ls line (by-line line (take at s) ls x)
   went Blank after n e =
       let en : n ≡ at = cc in
       record {
@@ -98,71 +72,79 @@ module _ (s : List ℕ) (size : length s ≡ script_bytes) (at : ℕ) (inside : 
         whole = ap (λ (m : List ℕ). assembled_from (suc line) m ls) (ap₂ take (sym en) (sym e.area));
       }
   went (Bytes b) after n e = rw (room-is b) (next-bytes b after n (room (length s) at (length b)) refl e.answer e.area)
-  went (Bad why) after n e = absurd (let z : ◌≡◌ {A = ℕ} 0 1 = cc in omega arith)
+  went (Bad why) after n e = cc
 
-  wrong-bytes : (b : List ℕ) (why : Reason) (t : Bool) → Wrong why ≡ cond t (Next (at + length b)) (Wrong LongScript)
+  wrong-bytes : (b : List ℕ) (why : Reason) (t : Bool) → ◌≡◌ {A = Step} (Err why) (cond t (Ok (at + length b)) (Err LongScript))
       → cond t (assembled_from (suc line) (take at s ++ b) ls) (WrongLine line LongScript) ≡ WrongLine line why
-  wrong-bytes b why true p = absurd (let z : ◌≡◌ {A = ℕ} 0 1 = cc in omega arith)
+  wrong-bytes b why true p = cc
   wrong-bytes b why false p = let e : LongScript ≡ why = cc in ap (WrongLine line) e
 
-  went-wrong : (x : Line) (after : List ℕ) (why : Reason) → Extends s at x after (Wrong why) → by-line line (take at s) ls x ≡ WrongLine line why
-  went-wrong Blank after why e = absurd (let z : ◌≡◌ {A = ℕ} 0 1 = cc in omega arith)
+  went-wrong : (x : Line) (after : List ℕ) (why : Reason) → Extends s at x after (Err why) → by-line line (take at s) ls x ≡ WrongLine line why
+  went-wrong Blank after why e = cc
   went-wrong (Bytes b) after why e = rw (room-is b) (wrong-bytes b why (room (length s) at (length b)) e.answer)
   went-wrong (Bad w) after why e = let q : w ≡ why = cc in ap (WrongLine line) q
 
-module _ (text : List ℕ) where
-  pub record Going (s : List ℕ) (start next line : ℕ) : Type 0 where
-    pub size : length s ≡ script_bytes
-    pub inside : next ≤ length s
-    pub low : start ≤ length text
-    pub few : line ≤ start + 1
-    pub whole : assembled text ≡ assembled_from line (take next s) (lines_of (drop start text))
+-- k lines of a text are done, and their script stands in front of the area
+pub record Going (text s : List ℕ) (next k : ℕ) : Type 0 where
+  pub size : length s ≡ script_bytes
+  pub inside : next ≤ length s
+  pub whole : assembled text ≡ assembled_from (k + 1) (take next s) (drop k (lines_of text))
 
-  pub going : (s : List ℕ) → length s ≡ script_bytes → Going s 0 0 1
-  unfolding assembled
-  going s h = record { size = h; inside = omega arith; low = omega arith; few = omega arith; whole = refl }
+pub going : (text s : List ℕ) → length s ≡ script_bytes → Going text s 0 0
+unfolding assembled
+going text s h = record { size = h; inside = omega arith; whole = refl }
 
-  module _ {s : List ℕ} {start next line : ℕ} (g : Going s start next line) (end : ℕ) (ee : end ≡ start + line_length (drop start text)) where
-    pub line-inside : start ≤ end
-    line-inside = omega arith
+module _ {text s : List ℕ} {next k : ℕ} (g : Going text s next k) where
+  pub finishes : length (lines_of text) ≤ k → Assembles (assembled text) s (Ok next)
+  finishes h =
+      let a : assembled text ≡ Made (take next s) = g.whole ∙ ap (assembled_from (k + 1) (take next s)) (drop_of_length-le (lines_of text) h) in
+      let n : length (take next s) ≡ next = length-take-le next s g.inside in
+      record { answer = rw a (ap Ok (sym n)); front = rw a (ap (λ (i : ℕ). take i s) n) }
 
-    module _ (l : List ℕ) (el : l ≡ take (end - start) (drop start text)) (after : List ℕ) (r : Step) (x : Extends s next (line_of l) after r) where
-      first : take (line_length (drop start text)) (drop start text) ≡ l
-      first = sym (el ∙ ap (λ (k : ℕ). take k (drop start text)) (let q : end - start ≡ line_length (drop start text) = omega arith in q))
+  module _ (l : List ℕ) (here : k < length (lines_of text)) (el : l ≡ get_or (lines_of text) k l) (after : List ℕ) (r : Step) (x : Extends s next (line_of l) after r) where
+    abbrev behind : List (List ℕ)
+    behind = drop (suc k) (lines_of text)
 
-      at-line : (ls : List (List ℕ)) → lines_of (drop start text) ≡ take (line_length (drop start text)) (drop start text) ∷ ls
-          → assembled text ≡ by-line line (take next s) ls (line_of l)
-      at-line ls e = g.whole ∙ ap (assembled_from line (take next s)) (e ∙ ap (λ (f : List ℕ). f ∷ ls) first)
+    at-line : assembled text ≡ by-line (k + 1) (take next s) behind (line_of l)
+    at-line =
+        g.whole ∙ ap (assembled_from (k + 1) (take next s)) (drop-cons (lines_of text) k l here)
+        ∙ ap (λ (f : List ℕ). by-line (k + 1) (take next s) behind (line_of f)) (sym el)
 
-      pub fails : (why : Reason) → r ≡ Wrong why → Assembles (assembled text) after (WrongText line why)
-      fails why e =
-          let f = first-line (drop start text) in
-          let a : assembled text ≡ WrongLine line why =
-          at-line f.behind f.is ∙ went-wrong s g.size next g.inside line f.behind (line_of l) after why (rw e at x)
-          in record { answer = ap outcome (sym a); front = rw a refl }
+    pub fails : (w : Where) → r ≡ Err w.reason → w.line ≡ k + 1 → Assembles (assembled text) after (Err w)
+    fails w e n =
+        let a : assembled text ≡ WrongLine (k + 1) w.reason = at-line ∙ went-wrong s g.size next g.inside (k + 1) behind (line_of l) after w.reason (rw e at x) in
+        record { answer = ap (λ (i : ℕ). Err (record { line = i; reason = w.reason })) n ∙ ap outcome (sym a); front = rw a refl }
 
-      pub finishes : (n : ℕ) → r ≡ Next n → length text ≤ end → Assembles (assembled text) after (Script n)
-      finishes n e h =
-          let w = went s g.size next g.inside line [] (line_of l) after n (rw e at x) in
-          let a : assembled text ≡ Made (take n after) =
-          at-line [] (line-last (drop start text) (omega (arith, length-drop start text))) ∙ w.whole in
-          let k : length (take n after) ≡ n = length-take-le n after w.inside in
-          record { answer = rw a (ap Script (sym k)); front = rw a (ap (λ (i : ℕ). take i after) k) }
+    pub goes : (n : ℕ) → r ≡ Ok n → Going text after n (k + 1)
+    goes n e =
+        let w = went s g.size next g.inside (k + 1) behind (line_of l) after n (rw e at x) in
+        let one : suc k ≡ k + 1 = omega arith in
+        record {
+          size = w.size ∙ g.size;
+          inside = w.inside;
+          whole =
+              at-line ∙ w.whole
+              ∙ ap₂ (λ (i j : ℕ). assembled_from i (take n after) (drop j (lines_of text))) (let q : suc (k + 1) ≡ k + 1 + 1 = omega arith in q) one;
+        }
 
-      pub goes : (n : ℕ) → r ≡ Next n → end < length text → Going after (end + 1) n (line + 1)
-      goes n e h =
-          let t = drop start text in
-          let w = went s g.size next g.inside line (lines_of (drop (suc (line_length t)) t)) (line_of l) after n (rw e at x) in
-          let next-line : start + suc (line_length t) ≡ end + 1 = omega arith in
-          let there : drop (suc (line_length t)) t ≡ drop (end + 1) text = drop-drop (suc (line_length t)) start text ∙ ap (λ (i : ℕ). drop i text) next-line in
-          record {
-            size = w.size ∙ g.size;
-            inside = w.inside;
-            low = omega arith;
-            few = omega (arith, g.few);
-            whole =
-                at-line (lines_of (drop (suc (line_length t)) t)) (line-more t (omega (arith, length-drop start text))) ∙ w.whole
-                ∙ ap₂ (λ (i : ℕ) (d : List ℕ). assembled_from i (take n after) (lines_of d)) (let q : suc line ≡ line + 1 = omega arith in q) there;
-          }
+-- a turn of the loop over the lines with their places, of which xs came before, and its end
+module _ {S : Type 0} {steps : S → Option (ℕ × Bor (List ℕ)) → S → Type 0} {s : S} (t u : S) (xs : List (ℕ × Bor (List ℕ))) (y : Yields steps s xs t)
+    (r : Option (ℕ × Bor (List ℕ))) (st : steps t r u) where
+  pub turn : (i : ℕ) (l : Bor (List ℕ)) → r ≡ Some (i, l) → (ls : List (List ℕ)) → YieldsList steps (λ p. (p.0, p.1.now)) s (enumerate_from 0 ls)
+      → (i ≡ length xs) × (length xs < length ls) × (l.now ≡ get_or ls (length xs) l.now)
+  turn i l e ls road =
+      let k = YieldsList-turn road xs t y r u (i, l) e st in
+      let here : length xs < length ls = omega (arith, k.0, length-enumerate_from 0 ls) in
+      let its = k.1 ∙ get_or-enumerate_from 0 ls (length xs) (i, l.now) here in
+      (omega (arith, ap (λ (p : ℕ × List ℕ). p.0) its), here, ap (λ (p : ℕ × List ℕ). p.1) its)
 
-pub ruleset texts = (going, line-inside, fails, finishes, goes)
+  pub last-turn : r ≡ None → (ls : List (List ℕ)) → YieldsList steps (λ p. (p.0, p.1.now)) s (enumerate_from 0 ls) → length ls ≤ length xs
+  last-turn e ls road = let k = YieldsList-end road xs t y r u e st in omega (arith, k.1, length-enumerate_from 0 ls)
+
+-- the lines of a text with their places, as the loop takes them
+pub lines-road : {F : Type 0} (g : Mut F (Bor ℕ × Unit {0}) Bool) {f : F} {cut : Split ℕ F} {numbered taken : Enumerate (Split ℕ F)} (text : List ℕ)
+    → taken ≡ numbered → enumerate_source numbered ≡ cut → enumerate_count numbered ≡ 0 → split_rest cut ≡ text → split_done cut ≡ false → split_callee cut ≡ f
+    → ((x : ℕ) (b : Bool) (q : F) → CalledAt g f x b q → (q ≡ f) × (b ≡ eqb x 10))
+    → YieldsList (enumerate_steps (split_steps g)) (λ p. (p.0, p.1.now)) taken (enumerate_from 0 (lines_of text))
+lines-road g text t e n r d k ends =
+    YieldsList-at t (YieldsList-from_enumerate (YieldsList-at e (YieldsList-from_slice_split g (λ b. eqb b 10) text r d k ends)) n)

@@ -2,24 +2,26 @@
 use Prim.Native.Nat.{ℕ, suc, ◌+◌, ◌≤◌}
 use native.Mathlib.Omega.{arith}
 use mathlib.Core.Path.{◌≡◌, ◌∙◌, refl, sym, ap}
-use mathlib.Core.Bool.{Bool, true, cond}
+use mathlib.Core.Bool.{Bool, true, not, cond}
+use lib.Dec.{eqb}
+use Rattle.std.specs.List.{onto_first}
 use mathlib.Core.List.{List, [], ◌∷◌, ◌++◌, append_assoc, append-nil}
 use lib.ListN.{length, length-append}
 use Rattle.model.specs.Record.{record_bytes}
-use Rattle.model.proofs.Terms.{all, script_bytes, le-leb}
+use Rattle.model.proofs.Terms.{all, script_bytes, le-leb, not-true}
 use Rattle.text.specs.Place.{here_text}
 use Rattle.assemble.specs.declared.reason.Reason.TheVariants.{LongScript}
 use Rattle.assemble.specs.Words.{compute_words}
 use Rattle.assemble.specs.Lines.{compute_lines}
-use Rattle.assemble.specs.Assembled.{Made, WrongLine, in_line, with_first, lines_of, assembled_from, assembled}
+use Rattle.assemble.specs.Assembled.{Made, WrongLine, lines_of, assembled_from, assembled}
 use Rattle.assemble.specs.Statements.{Records, AllCarried, script_of, shown_lines, ScriptComesBack}
 use Rattle.assemble.proofs.Texts.{by-line}
-use Rattle.assemble.proofs.ShownFields.{both}
+use Rattle.assemble.proofs.ShownFields.{in_line, both}
 use Rattle.assemble.proofs.ShownLines.{shown-comes-back, text_in-line}
 
 first-line : (l text : List ℕ) → all in_line l ≡ true → lines_of (l ++ (10 ∷ text)) ≡ l ∷ lines_of text
 first-line [] text h = refl
-first-line (c ∷ l) text h = let e = both (in_line c) (all in_line l) h in rw e.0 (ap (with_first c) (first-line l text e.1))
+first-line (c ∷ l) text h = let e = both (in_line c) (all in_line l) h in rw (not-true (eqb c 10) e.0) (ap (onto_first c) (first-line l text e.1))
 
 from-here : (es : Records) (n : ℕ) (made : List ℕ) → AllCarried es → length made + length (script_of es) ≤ script_bytes
     → assembled_from n made (lines_of (shown_lines es)) ≡ Made (made ++ script_of es)

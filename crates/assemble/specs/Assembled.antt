@@ -1,12 +1,11 @@
 -- A text of calls, a line each, as the bytes of a script.
-use Rattle.std.specs.Prelude.{ℕ, suc, ◌+◌, ◌≡◌, Bool, not, cond, List, [], ◌∷◌, ◌++◌, length, take, eqb}
+use Rattle.std.specs.Prelude.{ℕ, suc, ◌≡◌, cond, List, [], ◌∷◌, ◌++◌, length, take, eqb, Result, Ok, Err}
+use Rattle.std.specs.List.{slice_split}
 use Rattle.model.specs.Sizes.{script_bytes}
 use Rattle.script.specs.Place.{room}
 use Rattle.assemble.specs.declared.reason.Reason.{Reason}
 use Rattle.assemble.specs.declared.reason.Reason.TheVariants.{LongScript}
-use Rattle.assemble.specs.declared.assembler.Outcome.{Outcome}
-use Rattle.assemble.specs.declared.assembler.Outcome.TheVariants.{Script, Wrong}
-use Rattle.assemble.specs.Words.{run}
+use Rattle.assemble.specs.declared.assembler.WrongLine.{WrongLine as Where}
 use Rattle.assemble.specs.Lines.{Blank, Bytes, Bad, line_of}
 
 -- The bytes of a script; or which line is wrong, counted from 1, and why.
@@ -14,21 +13,9 @@ pub data Assembly : Type 0 where
   Made : List ℕ → Assembly
   WrongLine : ℕ → Reason → Assembly
 
--- how many bytes the first line has, up to a line feed
-abbrev pub in_line : ℕ → Bool
-in_line c = not (eqb c 10)
-
-unfoldable pub line_length : List ℕ → ℕ
-line_length text = run in_line text
-
 -- the lines: a line feed ends one and begins the next
-abbrev pub with_first : ℕ → List (List ℕ) → List (List ℕ)
-with_first c [] = (c ∷ []) ∷ []
-with_first c (l ∷ ls) = (c ∷ l) ∷ ls
-
 abbrev pub lines_of : List ℕ → List (List ℕ)
-lines_of [] = [] ∷ []
-lines_of (c ∷ text) = cond (in_line c) (with_first c (lines_of text)) ([] ∷ lines_of text)
+lines_of text = slice_split (λ c. eqb c 10) text
 
 -- the lines from line n on, behind the bytes that are made already: each one's record goes behind them, while the script is not too long
 abbrev pub assembled_from : ℕ → List ℕ → List (List ℕ) → Assembly
@@ -44,14 +31,14 @@ unfoldable pub assembled : List ℕ → Assembly
 assembled text = assembled_from 1 [] (lines_of text)
 
 -- What the code answers, and what stands in front of the area: the script.
-abbrev pub outcome : Assembly → Outcome
-outcome (Made bytes) = Script (length bytes)
-outcome (WrongLine n why) = Wrong n why
+abbrev pub outcome : Assembly → Result ℕ Where
+outcome (Made bytes) = Ok (length bytes)
+outcome (WrongLine n why) = Err (record { line = n; reason = why })
 
 abbrev pub made : Assembly → List ℕ
 made (Made bytes) = bytes
 made (WrongLine n why) = []
 
-pub record Assembles (a : Assembly) (after : List ℕ) (r : Outcome) : Type 0 where
+pub record Assembles (a : Assembly) (after : List ℕ) (r : Result ℕ Where) : Type 0 where
   pub answer : r ≡ outcome a
   pub front : take (length (made a)) after ≡ made a

@@ -3,8 +3,15 @@ use Rattle.std.specs.Prelude.{ℕ, List, ◌++◌}
 use Rattle.model.specs.Sizes.{message_bytes, script_bytes}
 use Rattle.text.specs.Names.{ascii}
 use Rattle.text.specs.Numbers.{decimal}
+use Rattle.script.specs.declared.writer.WriteError.{WriteError}
+use Rattle.script.specs.declared.writer.WriteError.TheVariants.{NoRoom, WrongMessage}
 use Rattle.assemble.specs.declared.reason.Reason.{Reason}
 use Rattle.assemble.specs.declared.reason.Reason.TheVariants.{UnknownCall, FieldMissing, OtherField, NotANumber, BadMessage, LongMessage, LeftOver, LongScript}
+
+-- why a record is refused, as what is wrong with its line
+abbrev pub reason_of : WriteError → Reason
+reason_of NoRoom = LongScript
+reason_of WrongMessage = BadMessage
 
 -- what has more bytes than it may have
 unfoldable pub longer_than : List ℕ → ℕ → List ℕ

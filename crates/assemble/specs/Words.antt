@@ -1,5 +1,6 @@
 -- A line of text: its words, up to a comment.
-use Rattle.std.specs.Prelude.{ℕ, suc, ◌+◌, Bool, true, not, ◌||◌, cond, List, [], ◌∷◌, take, drop, eqb}
+use Rattle.std.specs.Prelude.{ℕ, ◌+◌, Bool, true, not, ◌||◌, List, [], ◌∷◌, take, drop, eqb}
+use Rattle.std.specs.List.{prefix_len}
 
 -- what stands between words: spaces, tabs, and the first byte of a line's end that has two
 abbrev pub is_blank : ℕ → Bool
@@ -9,18 +10,13 @@ is_blank c = eqb c 32 || eqb c 9 || eqb c 13
 abbrev pub ends_word : ℕ → Bool
 ends_word c = is_blank c || eqb c 35
 
--- how many bytes stand in front of which something holds
-abbrev pub run : (ℕ → Bool) → List ℕ → ℕ
-run p [] = 0
-run p (c ∷ l) = cond (p c) (suc (run p l)) 0
-
 -- the place of the next word from a place on: behind the blanks
 unfoldable pub word_start : List ℕ → ℕ → ℕ
-word_start line at = at + run is_blank (drop at line)
+word_start line at = at + prefix_len is_blank (drop at line)
 
 -- the word at a place: its length, the place behind it, its bytes
 unfoldable pub word_length : List ℕ → ℕ → ℕ
-word_length line at = run (λ c. not (ends_word c)) (drop at line)
+word_length line at = prefix_len (λ c. not (ends_word c)) (drop at line)
 
 unfoldable pub word_end : List ℕ → ℕ → ℕ
 word_end line at = at + word_length line at

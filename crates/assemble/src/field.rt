@@ -1,121 +1,90 @@
 // The fields of a call.
-ghost use Rattle.std.specs.Prelude.{◌≤◌, ◌≡◌, length};
+ghost use Rattle.std.specs.Prelude.{◌≡◌, length};
 ghost use Rattle.assemble.specs.Fields.{name_length, number_from, field_of, field_at, fields_from, fields_read};
 ghost use Rattle.assemble.specs.Read.{read};
 
-use super::name::is_same;
-use super::number::{Number, number_at};
-use super::reason::{Reason, Step};
+use super::number::number_at;
+use super::reason::Reason;
 use super::word::{is_over, skip_blanks, word, word_end};
-use script::place::part;
-use text::names::{TEMPLATE_BYTES, put_template};
+use text::names::template;
 
 // No call has more fields.
 pub(crate) const FIELDS: usize = 3;
-
-// A field, or what is wrong.
-#[derive(Clone, Copy)]
-pub enum Field {
-    Value(i32),
-    Wrong(Reason),
-}
 
 // The place of a word's first `=`, or its end.
 fn name_length(word: &[u8]) -> usize
     ensures { result ≡ name_length word.now }
 {
-    let mut i = 0;
-    while i < word.len() {
-        if word[i] == b'=' {
-            return i;
-        }
-        i += 1;
-    }
-    i
+    word.iter().take_while(|c| **c != b'=').count()
 }
 
 // The number that a word is from a place on.
-fn number_from(word: &[u8], from: usize) -> Field
+#[tactic(auto, unfolding(crate::specs::Fields::number_from))]
+fn number_from(word: &[u8], from: usize) -> Result<i32, Reason>
     ensures { result ≡ number_from word.now from }
 {
-    match number_at(word, from) {
-        Number::Value(z) => Field::Value(z),
-        Number::Nothing => Field::Wrong(Reason::NotANumber),
-    }
+    number_at(word, from).ok_or(Reason::NotANumber)
 }
 
 // The field of this name that a word is.
-fn field_of(name: &[u8], word: &[u8]) -> Field
+#[tactic(auto, using(std::proofs::lemmas::Bool::Decides::nat_tests), unfolding(crate::specs::Fields::field_of))]
+fn field_of(name: &[u8], word: &[u8]) -> Result<i32, Reason>
     ensures { result ≡ field_of name.now word.now }
 {
     let n = name_length(word);
     if word.len() <= n {
         return number_from(word, 0);
     }
-    if is_same(part(word, 0, n), name) {
+    if &word[..n] == name {
         number_from(word, n + 1)
     } else {
-        Field::Wrong(Reason::OtherField)
+        Err(Reason::OtherField)
     }
 }
 
 // The field of this name at a place.
-fn field_at(name: &[u8], line: &[u8], at: usize) -> Field
+#[tactic(auto, using(std::proofs::lemmas::Bool::Decides::nat_tests), unfolding(crate::specs::Fields::field_at))]
+fn field_at(name: &[u8], line: &[u8], at: usize) -> Result<i32, Reason>
     ensures { result ≡ field_at name.now line.now at }
 {
     if is_over(line, at) {
-        return Field::Wrong(Reason::FieldMissing);
+        return Err(Reason::FieldMissing);
     }
     field_of(name, word(line, at))
 }
 
-// Some fields from a place on, by their names from a place on.
+// As many fields as there are values, from a place on, by their names from a place on.
 fn fields_from(
     values: &mut [i32],
-    count: usize,
     names: &[u8],
     from: usize,
     line: &[u8],
     start: usize,
-) -> Step
-    requires { count ≤ length values.old }
-    ensures { read values.new result ≡ fields_from count 0 values.old names.now from line.now start }
+) -> Result<usize, Reason>
+    ensures { read values.new result ≡ fields_from (length values.old) 0 values.old names.now from line.now start }
 {
-    let mut i = 0;
     let mut t = from;
     let mut at = start;
-    while i < count {
+    for value in values.iter_mut() {
         t = skip_blanks(names, t);
         at = skip_blanks(line, at);
-        let f = field_at(word(names, t), line, at);
-        match f {
-            Field::Wrong(reason) => {
-                return Step::Wrong(reason);
-            }
-            Field::Value(z) => {
-                values[i] = z;
-            }
-        }
+        *value = field_at(word(names, t), line, at)?;
         t = word_end(names, t);
         at = word_end(line, at);
-        i += 1;
     }
-    Step::Next(at)
+    Ok(at)
 }
 
 // The fields of a kind's call.
+#[tactic(auto, unfolding(crate::specs::Fields::fields_read))]
 pub(crate) fn read_fields(
     values: &mut [i32],
-    count: usize,
     kind: u8,
     line: &[u8],
     at: usize,
-) -> Step
-    requires { count ≤ length values.old }
-    ensures { read values.new result ≡ fields_read count values.old kind line.now at }
+) -> Result<usize, Reason>
+    ensures { read values.new result ≡ fields_read (length values.old) values.old kind line.now at }
 {
-    let mut names = [0u8; TEMPLATE_BYTES];
-    let n = put_template(&mut names, 0, kind);
-    let names = part(&names, 0, n);
-    fields_from(values, count, names, word_end(names, 0), line, at)
+    let names = template(kind);
+    fields_from(values, names, word_end(names, 0), line, at)
 }

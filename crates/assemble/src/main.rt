@@ -10,7 +10,7 @@ mod number;
 mod reason;
 mod word;
 
-use assembler::{Outcome, assemble};
+use assembler::{WrongLine, assemble};
 use model::sizes::SCRIPT_BYTES;
 use model::stream::{STDERR, STDIN, STDOUT};
 use reason::{REPORT_BYTES, Reason, put_long_text, put_report};
@@ -43,14 +43,13 @@ fn main() {
         complain_of_length();
         return;
     }
-    let outcome = assemble(part(&text, 0, n), &mut script);
-    match outcome {
-        Outcome::Script(length) => {
+    match assemble(part(&text, 0, n), &mut script) {
+        Ok(length) => {
             if !io::write_all(STDOUT, part(&script, 0, length)) {
                 io::write_all(STDERR, b"assemble: the script could not be written\n");
             }
         }
-        Outcome::Wrong { line, reason } => {
+        Err(WrongLine { line, reason }) => {
             complain(line, reason);
         }
     }

@@ -1,11 +1,12 @@
-// What is wrong with a line, and where the reading of one goes on.
+// What is wrong with a line, and how that is said.
 ghost use Rattle.std.specs.Prelude.{◌≡◌, length};
 ghost use Rattle.script.specs.Place.{Wrote};
 ghost use Rattle.text.specs.Line.{IsFront};
-ghost use Rattle.assemble.specs.Reasons.{longer_than, reason_text, report, long_text, report_bytes};
+ghost use Rattle.assemble.specs.Reasons.{reason_of, longer_than, reason_text, report, long_text, report_bytes};
 
 use model::sizes::{MESSAGE_BYTES, SCRIPT_BYTES};
 use script::place::put;
+use script::writer::WriteError;
 use text::number::put_number;
 
 #[derive(Clone, Copy)]
@@ -20,11 +21,16 @@ pub enum Reason {
     LongScript,
 }
 
-// The next place, or what is wrong.
-#[derive(Clone, Copy)]
-pub enum Step {
-    Next(usize),
-    Wrong(Reason),
+impl From<WriteError> for Reason {
+    ghost from_gives = { λ e r. r ≡ reason_of e };
+
+    fn from(e: WriteError) -> Reason {
+        match e {
+            WriteError::NoRoom => Reason::LongScript,
+            // never: the message is as long as the kind has it
+            WriteError::WrongMessage => Reason::BadMessage,
+        }
+    }
 }
 
 // What has more bytes than it may have.

@@ -1,24 +1,16 @@
--- `name_length` meets its contract: it goes along what is no `=`. Assumes nothing.
-use Prim.Native.Nat.{◌-◌}
-use native.Mathlib.Nat.{zero-add}
-use mathlib.Core.Path.{◌∙◌, ap}
-use mathlib.Core.Bool.{not}
-use lib.ListN.{length}
-use Rattle.model.proofs.Terms.{eq-eqb, ne_eqb}
+-- `name_length` meets its contract: it counts what is no `=`. Assumes nothing.
+use Rattle.std.proofs.Common.{◌∙◌, rules, tests}
+use Rattle.std.proofs.lemmas.Iterator.{YieldsList-from_slice}
+use Rattle.std.proofs.lemmas.Iterator.Consumers.{YieldsList-at, count_from_yields_List}
+use Rattle.std.proofs.lemmas.Iterator.Search.{YieldsList-from_take_while}
+use Rattle.std.proofs.lemmas.List.Folds.{length-prefix_len}
 use Rattle.assemble.specs.Fields.{in_name, name_length}
-use Rattle.assemble.proofs.Runs.{begins, goes_on, ends, runs-out}
 use Rattle.assemble.proofs.field.name_length.Goals as goal
-
-pub loop-i-init : goal.loop-i-init
-loop-i-init c = begins _ _ _
-
-pub returns-then-word-i-eq61 : goal.returns-then-word-i-eq61
-unfolding name_length
-returns-then-word-i-eq61 c = ends in_name _ _ c.loop-i.invariant c.loop-i-test.true (ap not (eq-eqb _ 61 c.if-word-i-eq61.true)) ∙ zero-add _
-
-pub loop-i-preserved : goal.loop-i-preserved
-loop-i-preserved c = goes_on in_name _ _ c.loop-i.invariant c.loop-i-test.true (ap not (ne_eqb _ 61 c.if-word-i-eq61.false))
 
 pub returns : goal.returns
 unfolding name_length
-returns c = runs-out in_name _ _ c.loop-i.invariant c.loop-i-test.false ∙ zero-add _
+returns c =
+    count_from_yields_List c.take_while.result _ c.count.ensures.ran
+    (YieldsList-from_take_while _ in_name (YieldsList-at c.take_while.ensures.source (YieldsList-from_slice c.args.word.now cc))
+    c.take_while.ensures.closure c.take_while.ensures.done (λ x b q k. search (rules, tests)))
+    ∙ length-prefix_len in_name c.args.word.now

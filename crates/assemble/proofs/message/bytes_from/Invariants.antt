@@ -1,11 +1,11 @@
 -- `bytes_from` meets its contract, piece by piece. Assumes nothing.
-use Prim.Native.Nat.{◌-◌}
-use lib.ListN.{length}
-use Rattle.assemble.proofs.Pieces.{Taking}
+use Rattle.std.proofs.Common.{◌-◌, ◌≡◌, length}
+use Rattle.assemble.specs.Messages.{bytes_from}
 use Rattle.assemble.proofs.message.bytes_from.Given as goal
 
-abbrev pub invariant-loop-n : goal.invariant-loop-n
-invariant-loop-n l = Taking l.quoted l.initial.message l.line l.from l.message l.at l.n
-
-abbrev pub decreases-loop-n : goal.decreases-loop-n
-decreases-loop-n l = length l.initial.message - l.n
+abbrev pub invariant-loop-byte : goal.invariant-loop-byte
+invariant-loop-byte l = record {
+  size : length l.message ≡ length l.initial.message;
+  whole : bytes_from l.quoted (length l.initial.message) 0 l.initial.message l.line l.from
+      ≡ bytes_from l.quoted (length l.initial.message - l.byte-index) l.byte-index l.message l.line l.at;
+}

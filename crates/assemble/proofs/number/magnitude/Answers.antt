@@ -1,17 +1,14 @@
 -- `magnitude` meets its contract, digit by digit. Assumes nothing.
-use Prim.Native.Nat.{◌-◌}
-use borrow.Author.Rules.{rules}
-use Rattle.assemble.proofs.Digits.{digits}
+use Rattle.std.proofs.Common.{arith, length-drop, drop_of_length-le}
+use Rattle.std.proofs.lemmas.Bool.Decides.{nat_tests}
+use Rattle.assemble.proofs.Digits.{no-digits, digits-from, wrong-digit}
 use Rattle.assemble.proofs.number.magnitude.Goals as goal
 
-pub returns-then-word-from : goal.returns-then-word-from
-returns-then-word-from c = search (rules, digits)
+pub returns-then-is_empty : goal.returns-then-is_empty
+returns-then-is_empty c = grind (arith, nat_tests, length-drop, no-digits)
 
-pub loop-i-init : goal.loop-i-init
-loop-i-init c = search (rules, digits)
-
-pub loop-i-preserved : goal.loop-i-preserved
-loop-i-preserved c = search (rules, digits)
+pub returns-in_err-n : goal.returns-in_err-n
+returns-in_err-n c = grind (arith, nat_tests, length-drop, digits-from, wrong-digit)
 
 pub returns : goal.returns
-returns c = search (rules, digits)
+returns c = grind (arith, nat_tests, length-drop, drop_of_length-le, digits-from)

@@ -1,22 +1,13 @@
--- `word_end` meets its contract: it goes along what ends no word. Assumes nothing.
-use Prim.Native.Nat.{◌-◌}
-use mathlib.Core.Path.{◌∙◌, sym, ap}
-use mathlib.Core.Bool.{not}
-use lib.ListN.{length}
-use Rattle.assemble.specs.Words.{ends_word, word_end, word_length}
-use Rattle.assemble.proofs.Runs.{begins, goes_on, ends, runs-out}
+-- `word_end` meets its contract: the word ends behind its length. Assumes nothing.
+use Rattle.std.proofs.Common.{arith, drop, ap, length, length-drop, length-take}
+use Rattle.std.proofs.lemmas.List.Folds.{length-prefix_len}
+use Rattle.assemble.specs.Words.{word_length, word_at, word_end}
 use Rattle.assemble.proofs.word.word_end.Goals as goal
 
-pub loop-i-init : goal.loop-i-init
-loop-i-init c = begins _ _ _
-
-pub returns-then-ends_word : goal.returns-then-ends_word
-unfolding word_end word_length
-returns-then-ends_word c = ends (λ b. not (ends_word b)) _ _ c.loop-i.invariant c.loop-i-test.true (ap not (sym c.ends_word.ensures ∙ c.if-ends_word.true))
-
-pub loop-i-preserved : goal.loop-i-preserved
-loop-i-preserved c = goes_on (λ b. not (ends_word b)) _ _ c.loop-i.invariant c.loop-i-test.true (ap not (sym c.ends_word.ensures ∙ c.if-ends_word.false))
+pub overflow_add-result : goal.overflow_add-result
+unfolding word_at
+overflow_add-result c = omega (arith, ap length c.word.ensures, length-take (word_length c.args.line.now c.args.at) (drop c.args.at c.args.line.now), length-drop c.args.at c.args.line.now)
 
 pub returns : goal.returns
-unfolding word_end word_length
-returns c = runs-out (λ b. not (ends_word b)) _ _ c.loop-i.invariant c.loop-i-test.false
+unfolding word_end word_at word_length
+returns c = grind (arith, length-prefix_len)
