@@ -1,4 +1,5 @@
 -- A mutex is given up, and all that a task holds, in the order of the code's steps. Assumes nothing.
+use Rattle.std.specs.Prelude.{None, Option, Some}
 use Prim.Native.Nat.{ℕ}
 use native.Mathlib.Omega.{arith}
 use mathlib.Core.Path.{◌≡◌, ◌∙◌, refl, sym}
@@ -9,13 +10,7 @@ use borrow.Author.Tests.{eq-eqb, ne_eqb}
 use Rattle.model.specs.Sizes.{mutexes}
 use Rattle.model.specs.Lists.{◌!◌, up_to}
 use Rattle.model.specs.Code.{E_OK}
-use Rattle.model.specs.Number.{word_number, maybe_task, maybe_mutex}
-use Rattle.model.specs.declared.number.TaskNumber.{TaskNumber}
-use Rattle.model.specs.declared.number.MaybeTask.{MaybeTask}
-use Rattle.model.specs.declared.number.MaybeTask.TheVariants.{Task, Nothing as NoTask}
-use Rattle.model.specs.declared.number.MutexNumber.{MutexNumber}
-use Rattle.model.specs.declared.number.MaybeMutex.{MaybeMutex}
-use Rattle.model.specs.declared.number.MaybeMutex.TheVariants.{Mutex}
+use Rattle.model.specs.Number.{word_number, maybe_task, maybe_mutex, MutexNumber, TaskNumber}
 use Rattle.model.specs.Facts.{queue, locking, ceilinged}
 use Rattle.model.specs.Kernel.{with_holder}
 use Rattle.model.specs.World.{Nothing, with_kernel, queue_front, recompute}
@@ -34,8 +29,8 @@ use Rattle.act.specs.Ends.{release_held}
 use Rattle.act.proofs.Doing.{world, does, with-kernel}
 use Rattle.act.proofs.Loop.{LeftInLog, over, in-log-all, stays}
 
-module _ {m n : ℕ} {f : MaybeTask} {s s1 o log : List ℕ} {at : ℕ} (e : n ≡ m) (f-is : f ≡ maybe_task (queue_front (kernel s) (queue locking n))) where
-  pub releases-free : f ≡ NoTask → Represents s1 (with_holder (kernel s) m 0) → {s' : List ℕ} → Represents s' (recompute (kernel s1))
+module _ {m n : ℕ} {f : Option TaskNumber} {s s1 o log : List ℕ} {at : ℕ} (e : n ≡ m) (f-is : f ≡ maybe_task (queue_front (kernel s) (queue locking n))) where
+  pub releases-free : f ≡ None → Represents s1 (with_holder (kernel s) m 0) → {s' : List ℕ} → Represents s' (recompute (kernel s1))
       → DoesInLog (λ w. release w m) s o log at s' o log at
   unfolding settled with_kernel
   releases-free g a b =
@@ -46,14 +41,14 @@ module _ {m n : ℕ} {f : MaybeTask} {s s1 o log : List ℕ} {at : ℕ} (e : n �
       }
 
   -- no priority changes, where they are settled and all that wait are listed
-  pub releases-quiet : length s ≡ word_count → Priorities (kernel s) → Bitmap (kernel s) → Arrivals (kernel s) → f ≡ NoTask → {a : ℕ} → a ≡ (kernel s).mutexes.attribute ! m
+  pub releases-quiet : length s ≡ word_count → Priorities (kernel s) → Bitmap (kernel s) → Arrivals (kernel s) → f ≡ None → {a : ℕ} → a ≡ (kernel s).mutexes.attribute ! m
       → a ≢ ceilinged → Represents s1 (with_holder (kernel s) m 0) → DoesInLog (λ w. release w m) s o log at s1 o log at
   releases-quiet h settled right arrivals g a-is d r =
       let listing = listing-from (kernel s) (places-long s h) (arrivals-long s h) arrivals in
       releases-free g r
       (holder-settled s h settled right m 0 a-is d (nobody-there (kernel s) listing (queue locking m) (omega arith) (rw e at (task-is-none _ (sym f-is ∙ g)))) r)
 
-  pub releases-next : {t : TaskNumber} {u : ℕ} → f ≡ Task t → u ≡ t.0 → Represents s1 (with_holder (kernel s) m u)
+  pub releases-next : {t : TaskNumber} {u : ℕ} → f ≡ Some t → u ≡ t.0 → Represents s1 (with_holder (kernel s) m u)
       → {s' o' log' : List ℕ} {next : ℕ} → DoesInLog (λ w. end_wait w t.0 E_OK Nothing) s1 o log at s' o' log' next
       → DoesInLog (λ w. release w m) s o log at s' o' log' next
   releases-next {t} g u-is a d =
@@ -64,8 +59,8 @@ module _ {m n : ℕ} {f : MaybeTask} {s s1 o log : List ℕ} {at : ℕ} (e : n �
             ((d.does store).holds l _ (with-kernel h (rw u-is at a)));
       }
 
-module _ (t n : ℕ) {f : MaybeMutex} {m : MutexNumber} {holder u : ℕ} {s o log : List ℕ} {at : ℕ} (f-is : f ≡ maybe_mutex (word_number n mutexes))
-    (f-mutex : f ≡ Mutex m) (h-is : holder ≡ (kernel s).mutexes.holder ! m.0) (u-is : u ≡ t) where
+module _ (t n : ℕ) {f : Option MutexNumber} {m : MutexNumber} {holder u : ℕ} {s o log : List ℕ} {at : ℕ} (f-is : f ≡ maybe_mutex (word_number n mutexes))
+    (f-mutex : f ≡ Some m) (h-is : holder ≡ (kernel s).mutexes.holder ! m.0) (u-is : u ≡ t) where
   pub held-not : holder ≢ u → DoesInLog (release_held t n) s o log at s o log at
   unfolding release_held
   held-not g =

@@ -7,7 +7,6 @@ ghost use Rattle.model.specs.Words.{word_count, kernel};
 ghost use Rattle.act.specs.Held.{DoesInLog};
 ghost use Rattle.act.specs.Ends.{release_held};
 
-use state::layout::Words;
 use super::wait::end_wait;
 use model::attribute::CEILINGED;
 use model::code::E_OK;
@@ -15,6 +14,7 @@ use model::number::{MutexNumber, TaskNumber};
 use model::sizes::MUTEXES;
 use priority::recompute;
 use queue::front::front;
+use state::layout::Words;
 use state::mutex::{attribute, holder, set_holder};
 use state::task::LOCKING;
 

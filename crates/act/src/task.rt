@@ -7,7 +7,6 @@ ghost use Rattle.state.specs.Words.{Represents};
 ghost use Rattle.act.specs.Held.{DoesInLog};
 ghost use Rattle.act.specs.Ends.{Retires};
 
-use state::layout::Words;
 use super::mutex::release_all;
 use super::wait::{end_wait, leave};
 use model::code::E_TMOUT;
@@ -16,6 +15,7 @@ use model::sizes::ENDLESS;
 use priority::recompute;
 use queue::arrival::{arrive_last, depart};
 use queue::front::by_priority;
+use state::layout::Words;
 use state::task::DORMANT;
 
 // The task has left its wait, stands in no queue and has its initial priority for a base again, before it gives up its mutexes.

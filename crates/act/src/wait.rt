@@ -8,13 +8,13 @@ ghost use Rattle.state.specs.Words.{Represents};
 ghost use Rattle.act.specs.Held.{DoesInWords, DoesInLog};
 ghost use Rattle.act.specs.Ends.{wait_begun, Leaves, Unblocks};
 
-use state::layout::Words;
 use message::outbox::outbox_clear;
 use model::number::{TaskNumber, natural};
 use model::sizes::ENDLESS;
 use priority::recompute;
 use queue::arrival::arrive;
 use script::log::{log_block, log_ended, log_message};
+use state::layout::Words;
 use state::task::{LOCKING, READY, SENDING};
 
 // The milliseconds of a timeout: -1 and below stand for no end.

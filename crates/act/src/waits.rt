@@ -9,9 +9,9 @@ ghost use Rattle.model.specs.Words.{word_count};
 ghost use Rattle.order.specs.Order.{Tasks};
 ghost use Rattle.act.specs.Held.{DoesInLog};
 
-use state::layout::Words;
 use super::wait::end_wait;
 use model::number::TaskNumber;
+use state::layout::Words;
 
 // Ends the wait of the task of a number. Each number that is asked for names one, so the log never goes on for want of one.
 fn end_numbered(

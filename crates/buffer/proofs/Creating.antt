@@ -1,9 +1,7 @@
 -- cre_mbf, in the order of the code's steps. Assumes nothing.
+use Rattle.std.specs.Prelude.{None, Option, Some}
 use Rattle.model.proofs.Terms.{ℕ, ◌≡◌, refl, Bool, true, false, ◌||◌, not, none, List, [], ◌∷◌, length, ℤ, pos, lt_z, buffers, message_bytes, region_bytes, member, E_RSATR, E_PAR, E_NOMEM, E_LIMIT, number, Kernel, unused, Refusal, refuse, first_refusal, outside, buffer_attributes, bad_field, none_free, cre_mbf_refusals, cre_mbf, kernel, word_count, answer_bytes}
-use Rattle.model.specs.Number.{maybe_buffer}
-use Rattle.model.specs.declared.number.BufferNumber.{BufferNumber}
-use Rattle.model.specs.declared.number.MaybeBuffer.{MaybeBuffer}
-use Rattle.model.specs.declared.number.MaybeBuffer.TheVariants.{Buffer, Nothing as NoBuffer}
+use Rattle.model.specs.Number.{maybe_buffer, BufferNumber}
 use Rattle.model.specs.declared.call.Answer.{Answer}
 use Rattle.model.specs.declared.call.Answer.TheVariants.{Code}
 use Rattle.model.proofs.NumberLaws.{buffer_kind}
@@ -56,14 +54,14 @@ module _ (k : Kernel) (attribute bufsz maxmsz : ℤ) {b : ℤ} (b-is : b ≡ att
       pub create-size : wide ≡ true → Answers (Refused E_PAR)
       create-size e = after-below (field-refused (pos 1) (pos message_bytes) maxmsz m-is wide_is (full ∷ beyond ∷ []) e)
 
-      module _ (sized : wide ≡ false) {found : MaybeBuffer} (made : found ≡ maybe_buffer (unused k.buffers.exists buffers)) where
+      module _ (sized : wide ≡ false) {found : Option BufferNumber} (made : found ≡ maybe_buffer (unused k.buffers.exists buffers)) where
         after-size : {v : Verdict} → v ≡ verdict (first_refusal (full ∷ beyond ∷ [])) → Answers v
         after-size f = after-below (field-later (pos 1) (pos message_bytes) maxmsz m-is wide_is (full ∷ beyond ∷ []) sized f)
 
-        pub create-full : found ≡ NoBuffer → Answers (Refused E_LIMIT)
+        pub create-full : found ≡ None → Answers (Refused E_LIMIT)
         create-full e = after-size (full-refused buffer_kind k.buffers.exists made (beyond ∷ []) e)
 
-        module _ {x : BufferNumber} (some : found ≡ Buffer x) where
+        module _ {x : BufferNumber} (some : found ≡ Some x) where
           pub create-beyond : lt_z (pos region_bytes) s ≡ true → Answers (Refused E_NOMEM)
           create-beyond e = after-size (unused-later buffer_kind k.buffers.exists made (beyond ∷ []) some (refused-here beyond [] (rw s-is at e)))
 
@@ -71,15 +69,15 @@ module _ (k : Kernel) (attribute bufsz maxmsz : ℤ) {b : ℤ} (b-is : b ≡ att
           create-allowed e = after-size (unused-later buffer_kind k.buffers.exists made (beyond ∷ []) some (refused-later beyond [] (rw s-is at e) refl))
 
 -- and what it does
-pub create-room : (k : Kernel) (attribute bufsz maxmsz : ℤ) {found : MaybeBuffer} → found ≡ maybe_buffer (unused k.buffers.exists buffers)
-    → first_refusal (cre_mbf_refusals k attribute bufsz maxmsz) ≡ none → found ≡ NoBuffer → ⊥
+pub create-room : (k : Kernel) (attribute bufsz maxmsz : ℤ) {found : Option BufferNumber} → found ≡ maybe_buffer (unused k.buffers.exists buffers)
+    → first_refusal (cre_mbf_refusals k attribute bufsz maxmsz) ≡ none → found ≡ None → ⊥
 unfolding cre_mbf_refusals none_free
 create-room k attribute bufsz maxmsz made e g =
     never-full buffer_kind k.buffers.exists made (cre_mbf_refusals k attribute bufsz maxmsz) 3 e refl g
 
 pub creates-buffer : (attribute bufsz maxmsz : ℤ) {x y z : ℤ} → x ≡ attribute → y ≡ bufsz → z ≡ maxmsz → (caller : ℕ) {s s' log l1 : List ℕ}
-    {at next i j l n : ℕ} {found : MaybeBuffer} {b : BufferNumber} {answer : Answer} → length s ≡ word_count
-    → found ≡ maybe_buffer (unused (kernel s).buffers.exists buffers) → found ≡ Buffer b → n ≡ b.0 → answer ≡ Code (pos n)
+    {at next i j l n : ℕ} {found : Option BufferNumber} {b : BufferNumber} {answer : Answer} → length s ≡ word_count
+    → found ≡ maybe_buffer (unused (kernel s).buffers.exists buffers) → found ≡ Some b → n ≡ b.0 → answer ≡ Code (pos n)
     → Appends log at (answer_bytes answer) l1 next → i ≡ number x → j ≡ number y → l ≡ number z → Represents s' (buffer_row (kernel s) b.0 1 i j l)
     → CarriesInWords caller (λ w. cre_mbf w (number attribute) (number bufsz) (number maxmsz)) s log at s' l1 (record { answer = answer; next = next })
 unfolding cre_mbf

@@ -1,9 +1,7 @@
 -- del_mbf, in the order of the code's steps. Assumes nothing.
+use Rattle.std.specs.Prelude.{Option, Some}
 use Rattle.model.proofs.Terms.{ℕ, ◌-◌, ◌≡◌, refl, ap₂, List, ◌++◌, foldl-append, length, take, drop, ℤ, tasks, buffers, region_bytes, zeros, E_OK, E_DLT, number, queue, sending, receiving, with_used, Nothing, with_kernel, with_store, queue_order, with_region, end_waits, del_mbf, kernel, word_count, answer_bytes}
-use Rattle.model.specs.Number.{field_number, maybe_buffer}
-use Rattle.model.specs.declared.number.BufferNumber.{BufferNumber}
-use Rattle.model.specs.declared.number.MaybeBuffer.{MaybeBuffer}
-use Rattle.model.specs.declared.number.MaybeBuffer.TheVariants.{Buffer}
+use Rattle.model.specs.Number.{field_number, maybe_buffer, BufferNumber}
 use Rattle.model.specs.declared.call.Answer.TheVariants.{Code}
 use Rattle.model.proofs.NumberLaws.{buffer_kind}
 use Rattle.state.specs.Words.{Represents}
@@ -41,7 +39,7 @@ ends-all b n-is r r-size m-is t t-size d e =
     strikes (struck_out b) (λ k. queue_order k (queue receiving b) ++ queue_order k (queue sending b))
     (ap₂ ◌++◌ (rw n-is at (put-down r r-size)) (rw m-is at (put-down t t-size))) (d.does _ _ _) (e.does _)
 
-pub deletes-buffer : (buffer : ℤ) {x : ℤ} → x ≡ buffer → {found : MaybeBuffer} {b : BufferNumber} → found ≡ maybe_buffer (field_number x buffers) → found ≡ Buffer b
+pub deletes-buffer : (buffer : ℤ) {x : ℤ} → x ≡ buffer → {found : Option BufferNumber} {b : BufferNumber} → found ≡ maybe_buffer (field_number x buffers) → found ≡ Some b
     → (caller : ℕ) {s s' st st' o o' log l1 log' : List ℕ} {at p next : ℕ} → length s ≡ word_count → Appends log at (answer_bytes (Code E_OK)) l1 p
     → Does (deleted b.0) (areas s st o l1) p (areas s' st' o' log') next
     → Carries caller (λ w. del_mbf w (number buffer)) (areas s st o log) at (areas s' st' o' log') (record { answer = Code E_OK; next = next })

@@ -1,12 +1,7 @@
 -- rcv_mbf, in the order of the code's steps.
+use Rattle.std.specs.Prelude.{None, Option, Some}
 use Rattle.model.proofs.Terms.{ℕ, ◌≤◌, arith, ◌≡◌, ◌∙◌, refl, sym, ◌≢◌, Bool, true, false, none, List, [], ◌∷◌, length, length-take, ℤ, pos, eq-eqb, ne_eqb, buffers, message_bytes, ◌!◌, E_OK, E_PAR, E_ID, E_NOEXS, E_TMOUT, number, sending, receiving, queue, Kernel, queue_front, running, World, Nothing, Message, oldest_length, oldest, part, region, outbox_message, wait, end_wait, senders_message, bad_timeout, bad_number, no_such, no_time, receive_waits, rcv_mbf_refusals, Refusal, first_refusal, take_oldest, rcv_mbf, kernel, word_count, answer_bytes, delivery_bytes, Areas}
-use Rattle.model.specs.Number.{field_number, maybe_task, maybe_buffer}
-use Rattle.model.specs.declared.number.TaskNumber.{TaskNumber}
-use Rattle.model.specs.declared.number.MaybeTask.{MaybeTask}
-use Rattle.model.specs.declared.number.MaybeTask.TheVariants.{Task, Nothing as NoTask}
-use Rattle.model.specs.declared.number.BufferNumber.{BufferNumber}
-use Rattle.model.specs.declared.number.MaybeBuffer.{MaybeBuffer}
-use Rattle.model.specs.declared.number.MaybeBuffer.TheVariants.{Buffer, Nothing as NoBuffer}
+use Rattle.model.specs.Number.{field_number, maybe_task, maybe_buffer, BufferNumber, TaskNumber}
 use Rattle.model.specs.declared.call.Answer.{Answer}
 use Rattle.model.specs.declared.call.Answer.TheVariants.{Code, Waits}
 use Rattle.model.proofs.NumberLaws.{buffer_kind, task-is, task-is-none}
@@ -30,12 +25,12 @@ module _ (k : Kernel) (b : ℕ) {u : ℕ} (u-is : u ≡ k.buffers.used ! b) wher
   unfolding receive_waits
   waits-stored d = rw (← u-is, ne_eqb u 0 d)
 
-  module _ (empty : u ≡ 0) {n : ℕ} (n-is : n ≡ b) {found : MaybeTask} (from : found ≡ maybe_task (queue_front k (queue sending n))) where
-    pub waits-sent : {t : TaskNumber} → found ≡ Task t → false ≡ receive_waits k b
+  module _ (empty : u ≡ 0) {n : ℕ} (n-is : n ≡ b) {found : Option TaskNumber} (from : found ≡ maybe_task (queue_front k (queue sending n))) where
+    pub waits-sent : {t : TaskNumber} → found ≡ Some t → false ≡ receive_waits k b
     unfolding receive_waits
     waits-sent e = rw (← u-is, empty, ne_eqb (queue_front k (queue sending b)) 0 (rw n-is at (task-is _ _ (sym from ∙ e)).1))
 
-    pub waits-nobody : found ≡ NoTask → true ≡ receive_waits k b
+    pub waits-nobody : found ≡ None → true ≡ receive_waits k b
     unfolding receive_waits
     waits-nobody e = rw (← u-is, empty, eq-eqb (queue_front k (queue sending b)) 0 (rw n-is at (task-is-none _ (sym from ∙ e))))
 
@@ -56,7 +51,7 @@ module _ (k : Kernel) (buffer timeout : ℤ) where
     unfolding rcv_mbf_refusals
     receive-timeout e = timeout-refused timeout a-is r-is named e
 
-    module _ (fine : r ≡ false) {x : ℤ} (x-is : x ≡ buffer) {found : MaybeBuffer} (from : found ≡ maybe_buffer (field_number x buffers)) where
+    module _ (fine : r ≡ false) {x : ℤ} (x-is : x ≡ buffer) {found : Option BufferNumber} (from : found ≡ maybe_buffer (field_number x buffers)) where
       made : found ≡ maybe_buffer (field_number buffer buffers)
       made = rw x-is at from
 
@@ -64,10 +59,10 @@ module _ (k : Kernel) (buffer timeout : ℤ) where
       unfolding rcv_mbf_refusals
       after-timeout f = timeout-later timeout a-is r-is named fine f
 
-      pub receive-numberless : found ≡ NoBuffer → Answers (Refused E_ID)
+      pub receive-numberless : found ≡ None → Answers (Refused E_ID)
       receive-numberless e = after-timeout (number-refused buffer_kind buffer made (no_such k.buffers.exists buffer ∷ late ∷ []) e)
 
-      module _ {b : BufferNumber} (some : found ≡ Buffer b) {v : ℕ} (v-is : v ≡ k.buffers.exists ! b.0) where
+      module _ {b : BufferNumber} (some : found ≡ Some b) {v : ℕ} (v-is : v ≡ k.buffers.exists ! b.0) where
         pub receive-missing : v ≡ 0 → Answers (Refused E_NOEXS)
         receive-missing e = after-timeout (missing-refused buffer_kind buffer made k.buffers.exists (late ∷ []) some v-is e)
 
@@ -145,15 +140,15 @@ module _ (caller b : ℕ) (timeout : ℤ) {s st o log s' log' : List ℕ} {at : 
       → Carries caller (λ w. rcv_mbf w b timeout) (areas s st o log) at (areas s' st' o log') x
   receives-stored d f = carries-as caller (receive-oldest (lent_world (areas s st o log)) b timeout (λ q. d (u-is ∙ q))) (f.carries o)
 
-  module _ (empty : u ≡ 0) {n : ℕ} (n-is : n ≡ b) {found : MaybeTask} (from : found ≡ maybe_task (queue_front (kernel s) (queue sending n))) where
-    pub receives-sent : {t : TaskNumber} {o' : List ℕ} → found ≡ Task t
+  module _ (empty : u ≡ 0) {n : ℕ} (n-is : n ≡ b) {found : Option TaskNumber} (from : found ≡ maybe_task (queue_front (kernel s) (queue sending n))) where
+    pub receives-sent : {t : TaskNumber} {o' : List ℕ} → found ≡ Some t
         → CarriesInLog caller (received_sent t.0) s o log at s' o' log' x
         → Carries caller (λ w. rcv_mbf w b timeout) (areas s st o log) at (areas s' st o' log') x
     receives-sent e f =
         let q = rw n-is at (task-is _ _ (sym from ∙ e)) in
         carries-as caller (receive-first (lent_world (areas s st o log)) b timeout (sym u-is ∙ empty) (sym q.0) (rw (← q.0) at q.1)) (f.carries st)
 
-    pub receives-nothing : found ≡ NoTask → caller ≡ running (kernel s) → {t : ℤ} → t ≡ timeout
+    pub receives-nothing : found ≡ None → caller ≡ running (kernel s) → {t : ℤ} → t ≡ timeout
         → CarriesInWords caller (receive_waiting caller b t) s log at s' log' x
         → Carries caller (λ w. rcv_mbf w b timeout) (areas s st o log) at (areas s' st o log') x
     receives-nothing e runs {t} t-is f =
@@ -161,12 +156,12 @@ module _ (caller b : ℕ) (timeout : ℤ) {s st o log s' log' : List ℕ} {at : 
         (receive-nothing (lent_world (areas s st o log)) b timeout (sym u-is ∙ empty) (rw n-is at (task-is-none _ (sym from ∙ e))) ∙ rw (runs, t-is))
         (f.carries st o)
 
-module _ (buffer : ℤ) {x : ℤ} (x-is : x ≡ buffer) {found : MaybeBuffer} (from : found ≡ maybe_buffer (field_number x buffers)) where
-  pub receive-named : (k : Kernel) (timeout : ℤ) → first_refusal (rcv_mbf_refusals k buffer timeout) ≡ none → found ≡ NoBuffer → ⊥
+module _ (buffer : ℤ) {x : ℤ} (x-is : x ≡ buffer) {found : Option BufferNumber} (from : found ≡ maybe_buffer (field_number x buffers)) where
+  pub receive-named : (k : Kernel) (timeout : ℤ) → first_refusal (rcv_mbf_refusals k buffer timeout) ≡ none → found ≡ None → ⊥
   unfolding rcv_mbf_refusals bad_number
   receive-named k timeout e g = never-unnumbered buffer_kind buffer (rw x-is at from) (rcv_mbf_refusals k buffer timeout) 1 e refl g
 
-  module _ {b : BufferNumber} (some : found ≡ Buffer b) where
+  module _ {b : BufferNumber} (some : found ≡ Some b) where
     is-buffer : number buffer ≡ b.0
     is-buffer = (numbered buffer_kind buffer (rw x-is at from) some).1
 

@@ -1,14 +1,9 @@
 -- snd_mbf, in the order of the code's steps.
+use Rattle.std.specs.Prelude.{None, Option, Some}
 use Rattle.model.proofs.Terms.{ℕ, ◌≤◌, ◌<◌, min, arith, ◌≡◌, ◌∙◌, refl, sym, ap, ◌≢◌, Bool, true, false, ◌&&◌, not, none, List, [], ◌∷◌, ◌++◌, length, take, drop, length-take, ℤ, pos, negsuc, lt_z, le_z, eq-eqb, ne_eqb, lt-ltb, le-ltb, not-true, not-false, buffers, message_bytes, ◌!◌, zeros, all_zero, E_OK, E_PAR, E_ID, E_NOEXS, E_TMOUT, saturated, number, sending, receiving, queue, Kernel, with_outbox, queue_front, heads_queue, running, Nothing, Message, handed, room, with_outbox_message, wait, end_wait, fits, store_message, bad_timeout, dirty_tail, bad_number, no_such, no_time, outside, storable, send_waits, snd_mbf_refusals, Refusal, refuse, first_refusal, snd_mbf, kernel, word_count, answer_bytes, Areas}
 use mathlib.Core.Bool.{and-eq-true_iff}
 use lib.Seq.{take_all, take-take, take-append-le}
-use Rattle.model.specs.Number.{field_number, maybe_task, maybe_buffer}
-use Rattle.model.specs.declared.number.TaskNumber.{TaskNumber}
-use Rattle.model.specs.declared.number.MaybeTask.{MaybeTask}
-use Rattle.model.specs.declared.number.MaybeTask.TheVariants.{Task, Nothing as NoTask}
-use Rattle.model.specs.declared.number.BufferNumber.{BufferNumber}
-use Rattle.model.specs.declared.number.MaybeBuffer.{MaybeBuffer}
-use Rattle.model.specs.declared.number.MaybeBuffer.TheVariants.{Buffer, Nothing as NoBuffer}
+use Rattle.model.specs.Number.{field_number, maybe_task, maybe_buffer, BufferNumber, TaskNumber}
 use Rattle.model.specs.declared.call.Answer.TheVariants.{Code, Waits}
 use Rattle.model.proofs.NumberLaws.{buffer_kind, task-is, task-is-none}
 use Rattle.model.proofs.ByCase.{send-over, send-stored, send-waits}
@@ -48,12 +43,12 @@ pub storable-fits : (k : Kernel) (b n : ℕ) → storable k b n ≡ true → fit
 unfolding storable
 storable-fits k b n e = ((and-eq-true_iff (heads_queue k (queue sending b) (running k)) (fits k b n)).0 e).1
 
-module _ (k : Kernel) (b n : ℕ) {x : ℕ} (x-is : x ≡ b) {found : MaybeTask} (from : found ≡ maybe_task (queue_front k (queue receiving x))) where
-  pub waits-never : {t : TaskNumber} → found ≡ Task t → false ≡ send_waits k b n
+module _ (k : Kernel) (b n : ℕ) {x : ℕ} (x-is : x ≡ b) {found : Option TaskNumber} (from : found ≡ maybe_task (queue_front k (queue receiving x))) where
+  pub waits-never : {t : TaskNumber} → found ≡ Some t → false ≡ send_waits k b n
   unfolding send_waits
   waits-never e = rw (ne_eqb (queue_front k (queue receiving b)) 0 (rw x-is at (task-is _ _ (sym from ∙ e)).1))
 
-  pub waits-unstored : found ≡ NoTask → {r : Bool} → r ≡ storable k b n → not r ≡ send_waits k b n
+  pub waits-unstored : found ≡ None → {r : Bool} → r ≡ storable k b n → not r ≡ send_waits k b n
   unfolding send_waits
   waits-unstored e r-is = rw (eq-eqb (queue_front k (queue receiving b)) 0 (rw x-is at (task-is-none _ (sym from ∙ e))), r-is)
 
@@ -124,17 +119,17 @@ module _ (k : Kernel) (buffer msgsz timeout : ℤ) (bytes : List ℕ) where
         after-clean clean f = after-empty (refused-later dirty named (dirty-is ∙ clean) f)
 
       module _ (some_bytes : le_z l (pos 0) ≡ false) {d : Bool} (d-is : d ≡ (dirty_tail l bytes).applies) (clean : d ≡ false)
-          {x : ℤ} (x-is : x ≡ buffer) {found : MaybeBuffer} (from : found ≡ maybe_buffer (field_number x buffers)) where
+          {x : ℤ} (x-is : x ≡ buffer) {found : Option BufferNumber} (from : found ≡ maybe_buffer (field_number x buffers)) where
         made : found ≡ maybe_buffer (field_number buffer buffers)
         made = rw x-is at from
 
         after_tail : {v : Verdict} → v ≡ verdict (first_refusal named) → Answers v
         after_tail f = after-clean some_bytes d-is clean f
 
-        pub send-numberless : found ≡ NoBuffer → Answers (Refused E_ID)
+        pub send-numberless : found ≡ None → Answers (Refused E_ID)
         send-numberless e = after_tail (number-refused buffer_kind buffer made (no_such k.buffers.exists buffer ∷ long ∷ late ∷ []) e)
 
-        module _ {b : BufferNumber} (some : found ≡ Buffer b) {v : ℕ} (v-is : v ≡ k.buffers.exists ! b.0) where
+        module _ {b : BufferNumber} (some : found ≡ Some b) {v : ℕ} (v-is : v ≡ k.buffers.exists ! b.0) where
           is-buffer : number buffer ≡ b.0
           is-buffer = (numbered buffer_kind buffer made some).1
 
@@ -206,14 +201,14 @@ module _ (caller b : ℕ) (m : List ℕ) (timeout : ℤ) {s st o log s' log' : L
         carries-as caller
         (send-waits (lent_world (areas s st o log)) b m timeout nobody (sym r-is ∙ e) ∙ rw (runs, t-is)) (f.carries st)
 
-  pub sends-over : {n : ℕ} {found : MaybeTask} {r : TaskNumber} {o' : List ℕ} → n ≡ b → found ≡ maybe_task (queue_front (kernel s) (queue receiving n))
-      → found ≡ Task r → CarriesInLog caller (sent_over r.0 m) s o log at s' o' log' x
+  pub sends-over : {n : ℕ} {found : Option TaskNumber} {r : TaskNumber} {o' : List ℕ} → n ≡ b → found ≡ maybe_task (queue_front (kernel s) (queue receiving n))
+      → found ≡ Some r → CarriesInLog caller (sent_over r.0 m) s o log at s' o' log' x
       → Carries caller (λ w. snd_mbf w b m timeout) (areas s st o log) at (areas s' st o' log') x
   sends-over n-is from e f =
       let q = rw n-is at (task-is _ _ (sym from ∙ e)) in
       carries-as caller (send-over (lent_world (areas s st o log)) b m timeout (sym q.0) (rw (← q.0) at q.1)) (f.carries st)
 
-pub nobody-receives : (s : List ℕ) {b n : ℕ} {found : MaybeTask} → n ≡ b → found ≡ maybe_task (queue_front (kernel s) (queue receiving n)) → found ≡ NoTask
+pub nobody-receives : (s : List ℕ) {b n : ℕ} {found : Option TaskNumber} → n ≡ b → found ≡ maybe_task (queue_front (kernel s) (queue receiving n)) → found ≡ None
     → queue_front (kernel s) (queue receiving b) ≡ 0
 nobody-receives s n-is from e = rw n-is at (task-is-none _ (sym from ∙ e))
 
@@ -256,12 +251,12 @@ pub sends-as : (b : ℕ) (m : List ℕ) (timeout : ℤ) {m' : List ℕ} {t : ℤ
     → {caller : ℕ} {a c : Areas} {at : ℕ} {y : Reply} → Carries caller (λ w. snd_mbf w b m' t) a at c y → Carries caller (λ w. snd_mbf w b m timeout) a at c y
 sends-as b m timeout m-is t-is f = rw (← t-is, ← m-is) f
 
-module _ (buffer : ℤ) {x : ℤ} (x-is : x ≡ buffer) {found : MaybeBuffer} (from : found ≡ maybe_buffer (field_number x buffers)) where
-  pub send-named : (k : Kernel) (msgsz timeout : ℤ) (bytes : List ℕ) → first_refusal (snd_mbf_refusals k buffer msgsz timeout bytes) ≡ none → found ≡ NoBuffer → ⊥
+module _ (buffer : ℤ) {x : ℤ} (x-is : x ≡ buffer) {found : Option BufferNumber} (from : found ≡ maybe_buffer (field_number x buffers)) where
+  pub send-named : (k : Kernel) (msgsz timeout : ℤ) (bytes : List ℕ) → first_refusal (snd_mbf_refusals k buffer msgsz timeout bytes) ≡ none → found ≡ None → ⊥
   unfolding snd_mbf_refusals bad_number
   send-named k msgsz timeout bytes e g = never-unnumbered buffer_kind buffer (rw x-is at from) (snd_mbf_refusals k buffer msgsz timeout bytes) 3 e refl g
 
-  pub sends : {b : BufferNumber} → found ≡ Buffer b → (m : List ℕ) (timeout : ℤ) {m' : List ℕ} {t : ℤ} → m' ≡ m → t ≡ timeout
+  pub sends : {b : BufferNumber} → found ≡ Some b → (m : List ℕ) (timeout : ℤ) {m' : List ℕ} {t : ℤ} → m' ≡ m → t ≡ timeout
       → {caller : ℕ} {a c : Areas} {at : ℕ} {y : Reply} → Carries caller (λ w. snd_mbf w b.0 m' t) a at c y
       → Carries caller (λ w. snd_mbf w (number buffer) m timeout) a at c y
   sends {b} some m timeout m-is t-is f = rw (numbered buffer_kind buffer (rw x-is at from) some).1 (sends-as b.0 m timeout m-is t-is f)

@@ -10,16 +10,16 @@ ghost use Rattle.state.specs.Words.{Represents};
 ghost use Rattle.reply.specs.Replies.{CarriesInWords};
 ghost use Rattle.buffer.specs.Rows.{buffer_row};
 
-use state::layout::Words;
 use model::attribute::of_buffer;
 use model::call::Answer;
 use model::code::{E_OK, Error};
 use model::number::{BufferNumber, TaskNumber, natural};
 use model::sizes::{MESSAGE_BYTES, REGION_BYTES};
-use reply::field::{answer_number, outside};
 use reply::Reply;
+use reply::field::{answer_number, outside};
 use script::log::log_answer;
 use search::unused::unused_buffer;
+use state::layout::Words;
 
 // The longest message and the largest size that can be asked for.
 pub(crate) const LONGEST_MESSAGE: i32 = MESSAGE_BYTES as i32;

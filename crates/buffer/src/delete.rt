@@ -13,7 +13,6 @@ ghost use Rattle.act.specs.Held.{areas, Does, DoesInStore, DoesInLog};
 ghost use Rattle.reply.specs.Replies.{Carries};
 ghost use Rattle.buffer.specs.Deletion.{struck_out, deleted};
 
-use state::layout::Words;
 use super::create::set_row;
 use act::waits::end_waits;
 use message::store::store_clear;
@@ -25,6 +24,7 @@ use order::queue_order;
 use reply::Reply;
 use script::log::log_answer;
 use state::buffer::{exists, set_used};
+use state::layout::Words;
 use state::task::{RECEIVING, SENDING};
 
 pub fn refuse_del_mbf(state: &Words, buffer: i32) -> Result<(), Error>

@@ -12,7 +12,6 @@ ghost use Rattle.reply.specs.Replies.{Carries, CarriesInWords, CarriesInStore, C
 ghost use Rattle.buffer.specs.Branches.{received_stored, received_sent, receive_waiting};
 ghost use Rattle.buffer.specs.Stored.{Answerable};
 
-use state::layout::Words;
 use act::wait::{end_wait, wait};
 use message::outbox::outbox_message;
 use message::store::{store_oldest, store_oldest_length};
@@ -20,10 +19,11 @@ use model::call::Answer;
 use model::code::{E_OK, Error};
 use model::number::{BufferNumber, TaskNumber};
 use queue::front::front;
-use reply::field::{answer_number, bad_timeout, no_time};
 use reply::Reply;
+use reply::field::{answer_number, bad_timeout, no_time};
 use script::log::{log_answer, log_message};
 use state::buffer::{exists, used};
+use state::layout::Words;
 use state::task::{RECEIVING, SENDING, argument};
 use transfer::store::take_oldest;
 

@@ -15,7 +15,6 @@ ghost use Rattle.act.specs.Held.{areas};
 ghost use Rattle.reply.specs.Replies.{Carries, CarriesInStore, CarriesInLog};
 ghost use Rattle.buffer.specs.Branches.{sent_over, sent_in, send_waiting};
 
-use state::layout::Words;
 use super::create::LONGEST_MESSAGE;
 use act::wait::{end_wait_message, wait};
 use areas::bytes::{all_zero, behind, first};
@@ -27,11 +26,12 @@ use model::code::{E_OK, Error};
 use model::number::{BufferNumber, TaskNumber, natural};
 use model::sizes::MESSAGE_BYTES;
 use queue::front::{front, would_head};
-use reply::field::{bad_timeout, code, no_time, outside};
 use reply::Reply;
+use reply::field::{bad_timeout, code, no_time, outside};
 use script::log::log_answer;
 use script::place::put;
 use state::buffer::{exists, maxmsz};
+use state::layout::Words;
 use state::task::{RECEIVING, SENDING};
 use transfer::store::store_message;
 

@@ -1,4 +1,5 @@
 -- The public call, in the order of the code's steps.
+use Rattle.std.specs.Prelude.{Option}
 use Prim.Native.Nat.{ℕ}
 use native.Mathlib.Omega.{arith}
 use mathlib.Core.Path.{◌≡◌, ◌∙◌, sym}
@@ -10,10 +11,9 @@ use lib.Dec.{eqb}
 use borrow.Author.Tests.{eqb-true}
 use Rattle.model.specs.declared.call.Call.{Call}
 use Rattle.model.specs.declared.call.Answer.TheVariants.{Code}
-use Rattle.model.specs.declared.number.MaybeTask.{MaybeTask}
 use Rattle.model.specs.Sizes.{log_bytes}
 use Rattle.model.specs.Code.{E_SYS}
-use Rattle.model.specs.Number.{maybe_task}
+use Rattle.model.specs.Number.{maybe_task, TaskNumber}
 use Rattle.model.specs.World.{running}
 use Rattle.model.specs.Valid.{Bitmap, valid}
 use Rattle.model.specs.Step.{refused}
@@ -57,7 +57,7 @@ module _ (a : Areas) (c : Call) (bytes : List ℕ) where
       pub calls-bits : (length a.words ≡ word_count) × Bitmap (kernel a.words)
       calls-bits = (calls-words, ((valid-agrees (lent a.words a.store a.outbox)).0 parts.1).is_bitmap)
 
-      pub calls-ready : {runs : MaybeTask} → runs ≡ maybe_task (running (kernel a.words)) → Ready a runs
+      pub calls-ready : {runs : Option TaskNumber} → runs ≡ maybe_task (running (kernel a.words)) → Ready a runs
       calls-ready e = record { words = calls-words; log = size; sound = parts.1; runs = e }
 
       pub calls-steps : {b : Areas} {r : Step} → Steps a c bytes b r → called (record { answer = r.answer; written = r.written }) b ≡ lent_step a c bytes

@@ -1,5 +1,6 @@
 -- Which function a call has: its conditions and its effect are those that the functions of its kind promise, and where no task runs only a tick is
 -- carried out.
+use Rattle.std.specs.Prelude.{None, Option, Some}
 use Prim.Native.Nat.{ℕ, zero, suc, ◌-◌, ◌≤◌, ◌<◌, ◌^◌}
 use native.Mathlib.Omega.{arith}
 use mathlib.Core.Path.{◌≡◌, ◌∙◌, refl, sym, ap, subst}
@@ -15,13 +16,10 @@ use mir.Val.{to_z, of_z}
 use borrow.Author.Tests.{eq-eqb, ne_eqb}
 use Rattle.model.specs.declared.call.Call.{Call}
 use Rattle.model.specs.declared.call.Call.TheVariants.{CreTsk, DelTsk, StaTsk, ExtTsk, TerTsk, ChgPri, CreMtx, DelMtx, LocMtx, UnlMtx, CreMbf, DelMbf, SndMbf, RcvMbf, CreMpf, DelMpf, GetMpf, RelMpf, Tick}
-use Rattle.model.specs.declared.number.TaskNumber.{TaskNumber}
-use Rattle.model.specs.declared.number.MaybeTask.{MaybeTask}
-use Rattle.model.specs.declared.number.MaybeTask.TheVariants.{Task, Nothing as NoTask}
 use Rattle.model.specs.Sizes.{buffers, message_bytes, region_bytes, longest}
 use Rattle.model.specs.Lists.{◌!◌, zeros, joined}
 use Rattle.model.specs.Code.{E_CTX, number}
-use Rattle.model.specs.Number.{maybe_task}
+use Rattle.model.specs.Number.{maybe_task, TaskNumber}
 use Rattle.model.specs.Kernel.{Kernel}
 use Rattle.model.specs.World.{World, running}
 use Rattle.model.specs.Message.{packed, oldest_length}
@@ -136,14 +134,14 @@ module _ {c x : Call} (is : c ≡ x) where
 
 -- ---- the caller
 
-pub caller_runs : (k : Kernel) {caller : MaybeTask} {t : TaskNumber} → caller ≡ maybe_task (running k) → caller ≡ Task t → (t.0 ≡ running k) × (1 ≤ t.0)
+pub caller_runs : (k : Kernel) {caller : Option TaskNumber} {t : TaskNumber} → caller ≡ maybe_task (running k) → caller ≡ Some t → (t.0 ≡ running k) × (1 ≤ t.0)
 caller_runs k {t = t} runs e = let (same, some) = task-is (running k) t (sym runs ∙ e) in (same, omega arith)
 
 pub carries-for : {t u : ℕ} {f : World → Done} {a b : Areas} {at : ℕ} {r : Reply} → t ≡ u → Carries t f a at b r → Carries u f a at b r
 carries-for {f = f} {a} {b} {at} {r} e h = subst (λ (n : ℕ). Carries n f a at b r) e h
 
 -- nobody runs
-module _ (k : Kernel) (c : Call) (bytes : List ℕ) {caller : MaybeTask} (runs : caller ≡ maybe_task (running k)) (nobody : caller ≡ NoTask) where
+module _ (k : Kernel) (c : Call) (bytes : List ℕ) {caller : Option TaskNumber} (runs : caller ≡ maybe_task (running k)) (nobody : caller ≡ None) where
   nobody-runs : (nobody_runs k).applies ≡ true
   unfolding nobody_runs
   nobody-runs = eq-eqb (running k) 0 (task-is-none (running k) (sym runs ∙ nobody))

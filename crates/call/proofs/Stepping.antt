@@ -1,4 +1,5 @@
 -- A call on a valid state, in the order of the code's steps.
+use Rattle.std.specs.Prelude.{Option}
 use Prim.Native.Nat.{ℕ, zero, suc, ◌≤◌}
 use native.Mathlib.Omega.{arith}
 use mathlib.Core.Path.{◌≡◌, ◌∙◌, refl, sym, ap, subst}
@@ -9,8 +10,7 @@ use lib.IntN.{ℤ}
 use borrow.Author.Tests.{ne_eqb}
 use Rattle.model.specs.declared.call.Call.{Call}
 use Rattle.model.specs.declared.call.Answer.TheVariants.{Code}
-use Rattle.model.specs.declared.number.MaybeTask.{MaybeTask}
-use Rattle.model.specs.Number.{maybe_task, task_word}
+use Rattle.model.specs.Number.{maybe_task, task_word, TaskNumber, maybe_number}
 use Rattle.model.specs.World.{Lent, begun, running}
 use Rattle.model.specs.Act.{drain}
 use Rattle.model.specs.Refusal.{first_refusal, refusals}
@@ -35,11 +35,11 @@ use Rattle.call.specs.Steps.{Ready, Steps}
 
 -- the number of a task that was made from one
 word_made : (n : ℕ) → task_word (maybe_task n) ≡ n
-unfolding maybe_task
+unfolding maybe_number
 word_made zero = refl
 word_made (suc n) = rw (ne_eqb (suc n) 0 (λ z. absurd (omega arith)))
 
-module _ (a : Areas) (c : Call) (bytes : List ℕ) {caller : MaybeTask} (ready : Ready a caller) where
+module _ (a : Areas) (c : Call) (bytes : List ℕ) {caller : Option TaskNumber} (ready : Ready a caller) where
   x : Lent
   x = lent a.words a.store a.outbox
 
@@ -86,7 +86,7 @@ module _ (a : Areas) (c : Call) (bytes : List ℕ) {caller : MaybeTask} (ready :
       (v.length, subst Bitmap (sym v.kernel) (calls-keep-bits (begun x) c bytes ((valid-agrees x).0 ready.sound).is_bitmap e))
 
   -- it is carried out: its own log, the drain's, and the task that runs then
-  pub step-carries : {r : Reply} {b d : Areas} {at : ℕ} {runs : MaybeTask} {log : List ℕ} {next : ℕ} → first_refusal (refusals (kernel a.words) c bytes) ≡ none
+  pub step-carries : {r : Reply} {b d : Areas} {at : ℕ} {runs : Option TaskNumber} {log : List ℕ} {next : ℕ} → first_refusal (refusals (kernel a.words) c bytes) ≡ none
       → Carries (running (kernel a.words)) (λ w. perform w c bytes) a 0 b r → Does drain b r.next d at
       → runs ≡ maybe_task (running (kernel d.words)) → Appends d.log at (runs_bytes (task_word runs)) log next
       → Steps a c bytes (record { words = d.words; store = d.store; outbox = d.outbox; log = log })

@@ -1,11 +1,11 @@
 -- What a call on a valid state asks and gives.
+use Rattle.std.specs.Prelude.{Option}
 use Rattle.std.specs.Prelude.{◌≡◌, Bool, true, List, ℕ, length, eqb}
 use Rattle.std.proofs.Math.Option.{none}
 use Rattle.model.specs.declared.call.Call.{Call}
 use Rattle.model.specs.declared.call.Call.TheVariants.{Tick}
-use Rattle.model.specs.declared.number.MaybeTask.{MaybeTask}
 use Rattle.model.specs.Sizes.{log_bytes}
-use Rattle.model.specs.Number.{maybe_task}
+use Rattle.model.specs.Number.{maybe_task, TaskNumber}
 use Rattle.model.specs.World.{running}
 use Rattle.model.specs.Record.{kind_of}
 use Rattle.model.specs.Refusal.{first_refusal, refusals}
@@ -16,7 +16,7 @@ use Rattle.model.specs.Lent.{Areas, Returned, lent, returned}
 use Rattle.call.specs.declared.step.Step.{Step}
 
 -- The state is valid, the areas have their lengths, and the task that runs is handed over.
-pub record Ready (a : Areas) (caller : MaybeTask) : Type 0 where
+pub record Ready (a : Areas) (caller : Option TaskNumber) : Type 0 where
   pub words : length a.words ≡ word_count
   pub log : length a.log ≡ log_bytes
   pub sound : valid (lent a.words a.store a.outbox) ≡ true

@@ -10,7 +10,6 @@ ghost use Rattle.act.specs.Held.{areas};
 ghost use Rattle.reply.specs.Replies.{Carries};
 ghost use Rattle.call.specs.Steps.{Allowed, is_tick};
 
-use state::layout::Words;
 use buffer::create::{cre_mbf, refuse_cre_mbf};
 use buffer::delete::{del_mbf, refuse_del_mbf};
 use buffer::receive::{rcv_mbf, refuse_rcv_mbf};
@@ -27,6 +26,7 @@ use pool::delete::{del_mpf, refuse_del_mpf};
 use pool::get::{get_mpf, refuse_get_mpf};
 use pool::release::{refuse_rel_mpf, rel_mpf};
 use reply::Reply;
+use state::layout::Words;
 use task::change::{chg_pri, refuse_chg_pri};
 use task::create::{cre_tsk, del_tsk, refuse_cre_tsk, refuse_not_dormant};
 use task::run::{ext_tsk, refuse_ter_tsk, sta_tsk, ter_tsk};
@@ -84,7 +84,12 @@ fn is_tick(call: Call) -> bool
 }
 
 // Order 2: "no task runs and the call is not tick"; then the call's own.
-pub(crate) fn refuse(state: &Words, caller: Option<TaskNumber>, call: Call, message: &[u8]) -> Result<(), Error>
+pub(crate) fn refuse(
+    state: &Words,
+    caller: Option<TaskNumber>,
+    call: Call,
+    message: &[u8],
+) -> Result<(), Error>
     requires { caller ≡ maybe_task (running (kernel state.now)) }
     ensures { refusal_of result ≡ first_refusal (refusals (kernel state.now) call message.now) }
 {

@@ -10,7 +10,6 @@ ghost use Rattle.call.specs.Calls.{Answers, NotValid};
 
 use model::call::{Answer, Call};
 use model::code::E_SYS;
-
 use model::sizes::LOG_BYTES;
 use queue::next::next_to_run;
 use script::log::{log_answer, log_runs};

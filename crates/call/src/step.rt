@@ -6,13 +6,13 @@ ghost use Rattle.model.specs.Words.{kernel};
 ghost use Rattle.act.specs.Held.{areas};
 ghost use Rattle.call.specs.Steps.{Ready, Steps};
 
-use state::layout::Words;
 use super::dispatch::{carry_out, refuse};
 use model::call::{Answer, Call};
 use model::number::TaskNumber;
 use queue::next::next_to_run;
 use reply::Reply;
 use script::log::{log_answer, log_runs};
+use state::layout::Words;
 use transfer::drain::drain;
 
 // What such a call leaves: its answer, how many bytes of log it has written, and the task that runs next.

@@ -132,13 +132,18 @@ pub region-size : (n : ℕ) (s : List ℕ) → 1 ≤ n → n * region_bytes ≤ 
 unfolding region
 region-size n s h l = part-size region_bytes n s h l
 
--- messages where they lie: the oldest of a region, k bytes from a on; and the first n bytes of a task's part of the outbox
-pub oldest-shown : (s : List ℕ) {a k : ℕ} → a ≡ min 4 (length s) → k ≡ min (oldest_length s) (length s - a) → take k (drop a s) ≡ oldest s
+-- messages where they lie: the oldest of a region, behind its length; and the first n bytes of a task's part of the outbox
+pub oldest-shown : (s : List ℕ) (a k : ℕ) → a ≡ min (length s) 4 → k ≡ min (length (take (length s - a) (drop a s))) (oldest_length s)
+    → take k (take (length s - a) (drop a s)) ≡ oldest s
 unfolding oldest
-oldest-shown s {a} {k} p q =
-    let e : k ≡ min (oldest_length s) (length (drop a s)) = q ∙ rw length-drop in
-    rw e (take_min (oldest_length s) (drop a s) ∙ ap (take (oldest_length s)) (ap (λ (i : ℕ). drop i s) p ∙ drop_min 4 s))
+oldest-shown s a k p q =
+    let r : List ℕ = take (length s - a) (drop a s) in
+    let e : k ≡ min (oldest_length s) (length r) = omega arith in
+    let d : a ≡ min 4 (length s) = omega arith in
+    let all : r ≡ drop a s = take_all (length s - a) (drop a s) (rw length-drop (omega arith)) in
+    rw e (take_min (oldest_length s) r ∙ ap (take (oldest_length s)) (all ∙ ap (λ (i : ℕ). drop i s) d ∙ drop_min 4 s))
 
-pub outbox-shown : {t : ℕ} (n : ℕ) (s : List ℕ) {a e : ℕ} → Bounds message_bytes t (length s) a e → take (min n (e - a)) (drop a s) ≡ outbox_message t n s
+pub outbox-shown : {t : ℕ} (n k : ℕ) (s : List ℕ) {a e : ℕ} → Bounds message_bytes t (length s) a e
+    → k ≡ min n (length (take (e - a) (drop a s))) → take k (take (e - a) (drop a s)) ≡ outbox_message t n s
 unfolding outbox_message
-outbox-shown n s {a} {e} b = take-least n (e - a) (drop a s) ∙ ap (take n) (part-lent s b)
+outbox-shown n k s {a} {e} b h = rw h (take_min n (take (e - a) (drop a s)) ∙ ap (take n) (part-lent s b))

@@ -13,6 +13,7 @@ use Rattle.model.specs.Sizes.{tasks, region_bytes, message_bytes, outbox_bytes}
 use Rattle.model.specs.Lists.{◌!◌}
 use Rattle.model.specs.Facts.{queue, sending}
 use Rattle.model.specs.Code.{number}
+use Rattle.model.specs.Number.{numbered_as}
 use Rattle.model.specs.Kernel.{Kernel}
 use Rattle.model.specs.World.{Lent, World, Message, queue_front}
 use Rattle.model.specs.Message.{region, oldest, outbox_message}
@@ -26,13 +27,13 @@ use Rattle.message.proofs.Kept.{layout-remove}
 
 -- where the next message lies, case by case
 module _ (k : Kernel) (b : ℕ) where
-  pub located-stored : (k.buffers.used ! b ≡ 0 → ⊥) → located k b ≡ Stored (record { 0 = b })
+  pub located-stored : (k.buffers.used ! b ≡ 0 → ⊥) → located k b ≡ Stored (numbered_as b)
   unfolding located
   located-stored h = rw (ne_eqb (k.buffers.used ! b) 0 h)
 
   module _ (none : k.buffers.used ! b ≡ 0) where
     pub located-sent : (queue_front k (queue sending b) ≡ 0 → ⊥)
-        → located k b ≡ Sent (record { 0 = queue_front k (queue sending b) }) (k.tasks.argument ! queue_front k (queue sending b))
+        → located k b ≡ Sent (numbered_as (queue_front k (queue sending b))) (k.tasks.argument ! queue_front k (queue sending b))
     unfolding located
     located-sent h = rw (eq-eqb (k.buffers.used ! b) 0 none, ne_eqb (queue_front k (queue sending b)) 0 h)
 

@@ -1,15 +1,14 @@
--- Stores of a list's elements from a place on, `sets` of `lib.Seq`: what lies beyond the end is left out. And the loops that store them one by
--- one. Assumes nothing.
-use Prim.Native.Nat.{ℕ, zero, suc, ◌+◌, ◌-◌, ◌≤◌, ◌<◌, min}
+-- Stores of a list's elements from a place on, `sets` of `lib.Seq`: what lies beyond the end is left out. And the
+-- library's calls that store them. Assumes nothing.
+use Prim.Native.Nat.{ℕ, zero, suc, ◌+◌, ◌-◌, ◌≤◌, min}
 use native.Mathlib.Decide.{dec_le}
-use native.Mathlib.Nat.{add-suc, suc-add, add-zero, zero-add, add_comm}
-use native.Mathlib.Numerals.{add-one}
+use native.Mathlib.Nat.{add-suc, suc-add, add-zero, zero-add}
 use native.Mathlib.Omega.{arith}
 use mathlib.Core.List.{List, [], ◌∷◌, ◌++◌, append-nil}
 use mathlib.Core.Path.{◌≡◌, ◌∙◌, refl, sym, ap}
-use lib.ListN.{length, get_or, take, drop, set, length-set, length-drop, drop_of_length-le}
+use lib.ListN.{length, take, drop, set, length-append, length-drop, drop_of_length-le}
 use Rattle.model.specs.Message.{over, overwritten}
-use lib.Seq.{sets, set_out, take_all, take-length, drop-cons, drop-drop, get_or-drop, drop-set-lt}
+use lib.Seq.{sets, set_out, take_all, take-length}
 
 -- beyond the end nothing is stored
 pub sets-out : (xs l : List ℕ) (i : ℕ) → length l ≤ i → sets l i xs ≡ l
@@ -71,47 +70,21 @@ sets-lent xs l a =
     let all : length (drop a l) ≤ length l - a = rw length-drop (omega arith) in
     rw (take_all (length l - a) (drop a l) all, drop_of_length-le (drop a l) all, append-nil) (sym (sets_behind a xs l))
 
--- What a loop has still to store of xs from `at` on, into what was r₀ at its beginning and is r after i stores.
-pub record LeftToStore (xs : List ℕ) (at : ℕ) (r₀ r : List ℕ) (i : ℕ) : Type 0 where
-  pub size : length r ≡ length r₀
-  pub rest : sets r (at + i) (drop i xs) ≡ sets r₀ at xs
+-- what a library's call has written from a place on: as much of the elements as there is room for
+sets-room : (xs r ys : List ℕ) {k : ℕ} → k ≡ min (length xs) (length r) → ys ≡ take k xs → ys ++ drop k r ≡ sets r 0 xs
+sets-room xs r ys {k} e q = go (dec_le (length xs) (length r))
+  where
+    go : Dec (length xs ≤ length r) → ys ++ drop k r ≡ sets r 0 xs
+    go (yes h) =
+        let whole : k ≡ length xs = omega arith in
+        let fits : length (xs ++ drop (length xs) r) ≤ length r = rw (length-append, length-drop) (omega arith) in
+        rw (q, whole, take-length) (sym (take_all (length r) (xs ++ drop (length xs) r) fits) ∙ sets-front xs r)
+    go (no h) =
+        let all : k ≡ length r = omega arith in
+        rw (q, all, drop_of_length-le r {i = length r} (omega arith), append-nil) (sym (sets_over xs r (omega arith)))
 
-module _ {xs : List ℕ} {at : ℕ} {r₀ : List ℕ} where
-  pub left-all : LeftToStore xs at r₀ r₀ 0
-  left-all = record { size = refl; rest = rw add-zero }
-
-  pub left-turn : {r : List ℕ} {i v : ℕ} → LeftToStore xs at r₀ r i → i < length xs → get_or xs i 0 ≡ v → LeftToStore xs at r₀ (set r (at + i) v) (i + 1)
-  left-turn {r} {i} {v} l h e =
-      record {
-        size = length-set r (at + i) v ∙ l.size;
-        rest = rw (add-one, add-suc, ← e) (rw (drop-cons xs i 0 h) at l.rest);
-      }
-
-  pub left-none : {r : List ℕ} {i : ℕ} → LeftToStore xs at r₀ r i → min (length xs) (length r₀ - at) ≤ i → r ≡ sets r₀ at xs
-  left-none {r} {i} l h = go (dec_le (length xs) i) ∙ l.rest
-    where
-      go : Dec (length xs ≤ i) → r ≡ sets r (at + i) (drop i xs)
-      go (yes p) = rw (drop_of_length-le xs p)
-      go (no p) = sym (sets-out (drop i xs) r (at + i) (let s = l.size in omega arith))
-
--- Bytes moved to the front within one list by such a loop: from i on it is still as it was.
-pub record Moved (by : ℕ) (r₀ r : List ℕ) (i : ℕ) : Type 0 where
-  pub left : LeftToStore (drop by r₀) 0 r₀ r i
-  pub same : drop i r ≡ drop i r₀
-
-module _ {by : ℕ} {r₀ : List ℕ} where
-  pub moved_none : Moved by r₀ r₀ 0
-  moved_none = record { left = left-all; same = refl }
-
-  pub moved-turn : {r : List ℕ} {i : ℕ} → Moved by r₀ r i → by + i < length r₀ → Moved by r₀ (set r i (get_or r (by + i) 0)) (i + 1)
-  moved-turn {r} {i} m h =
-      record {
-        left = rw zero-add at (left-turn m.left (rw length-drop (omega arith)) at_i);
-        same = drop-set-lt (i + 1) r i _ (omega arith) ∙ sym (drop-drop 1 i r) ∙ ap (drop 1) m.same ∙ drop-drop 1 i r₀;
-      }
-    where
-      at_i : get_or (drop by r₀) i 0 ≡ get_or r (by + i) 0
-      at_i = get_or-drop by r₀ i 0 ∙ rw (add_comm by i) (sym (get_or-drop i r₀ by 0) ∙ rw (← m.same) (get_or-drop i r by 0))
-
-  pub moved_all : {r : List ℕ} {i : ℕ} → Moved by r₀ r i → length r₀ - by ≤ i → r ≡ sets r₀ 0 (drop by r₀)
-  moved_all m h = left-none m.left (rw length-drop (omega arith))
+pub sets-part : (xs l : List ℕ) (at k : ℕ) {ys : List ℕ} → k ≡ min (length xs) (length l - at) → ys ≡ take k xs
+    → take at l ++ (ys ++ drop k (drop at l)) ≡ sets l at xs
+sets-part xs l at k {ys} e q =
+    let room : k ≡ min (length xs) (length (drop at l)) = rw length-drop e in
+    ap (λ (r : List ℕ). take at l ++ r) (sets-room xs (drop at l) ys room q) ∙ sym (sets_behind at xs l)

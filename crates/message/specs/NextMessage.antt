@@ -3,6 +3,7 @@ use Rattle.std.specs.Prelude.{ℕ, Bool, ◌&&◌, not, cond, List, [], ℤ, eqb
 use Rattle.model.specs.Sizes.{buffers}
 use Rattle.model.specs.Lists.{◌!◌}
 use Rattle.model.specs.Code.{number}
+use Rattle.model.specs.Number.{numbered_as}
 use Rattle.model.specs.Facts.{queue, sending}
 use Rattle.model.specs.Kernel.{Kernel}
 use Rattle.model.specs.World.{Lent, queue_front}
@@ -22,8 +23,8 @@ message_at Nowhere store outbox = []
 unfoldable pub located : Kernel → ℕ → Location
 located k b =
     let t = queue_front k (queue sending b) in
-    cond (not (eqb (k.buffers.used ! b) 0)) (Stored (record { 0 = b }))
-    (cond (not (eqb t 0)) (Sent (record { 0 = t }) (k.tasks.argument ! t)) Nowhere)
+    cond (not (eqb (k.buffers.used ! b) 0)) (Stored (numbered_as b))
+    (cond (not (eqb t 0)) (Sent (numbered_as t) (k.tasks.argument ! t)) Nowhere)
 
 -- whether there is a buffer to look at: neither order 1 nor 5 nor 6 applies
 unfoldable pub has_buffer : Lent → ℤ → Bool

@@ -21,6 +21,6 @@ pub fn message_at<'a>(store: &'a [u8], outbox: &'a [u8], at: Location) -> &'a [u
     match at {
         Location::Stored(b) => store_oldest(store, b),
         Location::Sent(t, n) => outbox_message(outbox, t, n as usize),
-        Location::Nowhere => &store[0..0],
+        Location::Nowhere => &[],
     }
 }

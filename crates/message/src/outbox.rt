@@ -3,8 +3,8 @@ ghost use Rattle.std.specs.Prelude.{◌≡◌, [], length, take};
 ghost use Rattle.model.specs.Lists.{padded};
 ghost use Rattle.model.specs.Message.{outbox_message, with_outbox_message};
 
-use super::copy::{copy_in, fill_zero, least};
-use super::part::outbox_part;
+use super::copy::{copy_in, fill_zero};
+use super::part::part_of;
 use super::region::clear;
 use model::number::TaskNumber;
 
@@ -12,7 +12,7 @@ use model::number::TaskNumber;
 fn fill(p: &mut [u8], m: &[u8], n: usize)
     ensures { p.new ≡ padded (length p.old) (take n m.now) }
 {
-    let count = least(n, m.len());
+    let count = n.min(m.len());
     copy_in(p, 0, m, count);
     fill_zero(p, count, p.len());
 }
@@ -20,27 +20,21 @@ fn fill(p: &mut [u8], m: &[u8], n: usize)
 pub fn outbox_put(outbox: &mut [u8], t: TaskNumber, m: &[u8], n: usize)
     ensures { outbox.new ≡ with_outbox_message t.0 outbox.old (take n m.now) }
 {
-    let p = outbox_part(t, outbox.len());
-    let a = p.start;
-    let e = p.end;
-    fill(&mut outbox[a..e], m, n);
+    let part = part_of(t, outbox.len());
+    fill(&mut outbox[part], m, n);
 }
 
 pub fn outbox_clear(outbox: &mut [u8], t: TaskNumber)
     ensures { outbox.new ≡ with_outbox_message t.0 outbox.old [] }
 {
-    let p = outbox_part(t, outbox.len());
-    let a = p.start;
-    let e = p.end;
-    clear(&mut outbox[a..e]);
+    let part = part_of(t, outbox.len());
+    clear(&mut outbox[part]);
 }
 
 // The first n bytes of a task's part, where they lie.
 pub fn outbox_message<'a>(outbox: &'a [u8], t: TaskNumber, n: usize) -> &'a [u8]
     ensures { result.now ≡ outbox_message t.0 n outbox.now }
 {
-    let p = outbox_part(t, outbox.len());
-    let a = p.start;
-    let e = a + least(n, p.end - a);
-    &outbox[a..e]
+    let part = &outbox[part_of(t, outbox.len())];
+    &part[..n.min(part.len())]
 }

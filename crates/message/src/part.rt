@@ -1,47 +1,38 @@
 // Parts of an area, all of one size and counted from 1, as store and outbox are cut.
-ghost use Rattle.std.specs.Prelude.{◌≡◌, ◌≤◌, pred};
+ghost use Rattle.std.specs.Prelude.{ℕ};
 ghost use Rattle.model.specs.Sizes.{region_bytes, message_bytes};
 ghost use Rattle.message.specs.Parts.{Bounds};
 
-use super::copy::least;
-use model::number::{BufferNumber, TaskNumber};
+use model::number::{Buffer, Number, Task};
 use model::sizes::{MESSAGE_BYTES, REGION_BYTES};
+use std::ops::Range;
 
-// A part goes from its start up to its end, within the area.
-#[derive(Clone, Copy)]
-pub(crate) struct Part {
-    pub(crate) start: usize,
-    pub(crate) end: usize,
+// A kind of object that has a part of an area for each, and how many bytes a part has.
+pub(crate) trait Share {
+    ghost SIZE: { ℕ };
+
+    const SIZE: usize;
 }
 
-// How many parts lie before part n. There is no part 0; for the definitions it lies where part 1 does.
-fn parts_before(n: u32) -> usize
-    ensures { result ≡ pred n }
-{
-    if n == 0 { 0 } else { (n - 1) as usize }
+// A buffer's region of the store.
+impl Share for Buffer {
+    ghost SIZE = { region_bytes };
+
+    const SIZE: usize = REGION_BYTES;
 }
 
-// Where part n lies in an area of this length. No part is larger than a region.
-fn part_of(n: u32, size: usize, length: usize) -> Part
-    requires { size ≤ region_bytes }
-    ensures { Bounds size n length result.start result.end }
-{
-    let start = least(parts_before(n) * size, length);
-    Part {
-        start: start,
-        end: start + least(size, length - start),
-    }
+// A task's part of the outbox.
+impl Share for Task {
+    ghost SIZE = { message_bytes };
+
+    const SIZE: usize = MESSAGE_BYTES;
 }
 
-// A buffer's region in a store of this length, and a task's part of an outbox of this length.
-pub(crate) fn region_part(b: BufferNumber, length: usize) -> Part
-    ensures { Bounds region_bytes b.0 length result.start result.end }
+// Where an object's part lies in an area of this length, within it. There is no part 0; for the definitions it lies where part 1 does.
+pub(crate) fn part_of<K: Share>(n: Number<K>, length: usize) -> Range<usize>
+    ensures { Bounds K.SIZE n.0 length result.start result.end }
 {
-    part_of(b.word(), REGION_BYTES, length)
-}
-
-pub(crate) fn outbox_part(t: TaskNumber, length: usize) -> Part
-    ensures { Bounds message_bytes t.0 length result.start result.end }
-{
-    part_of(t.word(), MESSAGE_BYTES, length)
+    let before = n.word().saturating_sub(1) as usize;
+    let start = before.saturating_mul(K::SIZE).min(length);
+    start..start + K::SIZE.min(length - start)
 }

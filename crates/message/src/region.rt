@@ -5,15 +5,15 @@ ghost use Rattle.std.proofs.lemmas.List.Edits.{sets};
 ghost use Rattle.model.specs.Lists.{zeros};
 ghost use Rattle.model.specs.Message.{packed, appended, oldest_length, oldest, removed};
 
-use super::copy::{copy_in, fill_zero, least, put_length, shift};
+use super::copy::{copy_in, fill_zero, put_length, shift};
 use super::room::{cost, padding};
-use model::bytes::{byte, number4};
+use model::bytes::byte;
 
 // The first n bytes of m as one packed message at the front of a slice.
 fn pack(r: &mut [u8], m: &[u8], n: usize)
     ensures { r.new ≡ sets r.old 0 (packed (take n m.now)) }
 {
-    let count = least(n, m.len());
+    let count = n.min(m.len());
     put_length(r, count);
     copy_in(r, 4, m, count);
     fill_zero(r, 4 + count, padding(count));
@@ -31,14 +31,14 @@ pub fn append(r: &mut [u8], used: usize, m: &[u8], n: usize)
 pub fn oldest_length(r: &[u8]) -> u32
     ensures { result ≡ oldest_length r.now }
 {
-    number4(byte(r, 0), byte(r, 1), byte(r, 2), byte(r, 3))
+    u32::from_le_bytes([byte(r, 0), byte(r, 1), byte(r, 2), byte(r, 3)])
 }
 
 // The oldest message leaves: the rest moves to the front, and zeros stand where it ended.
 pub fn remove(r: &mut [u8])
     ensures { r.new ≡ removed r.old }
 {
-    let gone = least(cost(oldest_length(r)), r.len());
+    let gone = cost(oldest_length(r)).min(r.len());
     shift(r, gone);
     fill_zero(r, r.len() - gone, gone);
 }
@@ -46,14 +46,13 @@ pub fn remove(r: &mut [u8])
 pub fn clear(r: &mut [u8])
     ensures { r.new ≡ zeros (length r.old) }
 {
-    fill_zero(r, 0, r.len());
+    r.fill(0);
 }
 
 // The oldest message, where it lies.
 pub fn oldest<'a>(r: &'a [u8]) -> &'a [u8]
     ensures { result.now ≡ oldest r.now }
 {
-    let a = least(4, r.len());
-    let e = a + least(oldest_length(r) as usize, r.len() - a);
-    &r[a..e]
+    let behind = &r[r.len().min(4)..];
+    &behind[..behind.len().min(oldest_length(r) as usize)]
 }

@@ -3,7 +3,6 @@ ghost use Rattle.std.specs.Prelude.{◌≡◌, ◌-◌};
 ghost use Rattle.model.specs.Code.{saturated};
 ghost use Rattle.model.specs.Message.{rounded_up, cost, room};
 
-use super::copy::least;
 use model::sizes::LONGEST;
 
 // How many zeros follow a message of n bytes.
@@ -30,7 +29,7 @@ pub fn room(bufsz: u32, used: u32, n: u32) -> i32
     let taken = cost(n);
     let need = used as usize + taken;
     if need <= size {
-        return least(size - need, LONGEST as usize) as i32;
+        return (size - need).min(LONGEST as usize) as i32;
     }
-    -1 - least(need - size - 1, LONGEST as usize) as i32
+    -1 - (need - size - 1).min(LONGEST as usize) as i32
 }

@@ -11,7 +11,7 @@ use lib.ListN.{length, set, get_or-eq_default}
 use lib.Seq.{get_or-set_same, get_or-set_other}
 use lib.Dec.{eqb, ltb}
 use lib.IntN.{ℤ, pos, negsuc}
-use borrow.Author.Tests.{eqb-true, eq-eqb, eqb-false, lt-ltb, le-ltb}
+use borrow.Author.Tests.{ne_eqb, eqb-true, eq-eqb, eqb-false, lt-ltb, le-ltb}
 use Rattle.model.specs.Sizes.{tasks, mutexes, buffers, pools}
 use Rattle.model.specs.Lists.{◌!◌}
 use Rattle.model.specs.Kernel.{numbered}
@@ -181,6 +181,14 @@ module _ {A : Type 0} (kind : Kind A) {found : A} where
 pub number-made : {K : Type 0} (n : ℕ) → maybe_number {K = K} n ≡ cond (eqb n 0) None (Some (numbered_as n))
 unfolding maybe_number
 number-made n = refl
+
+pub number-some : {K : Type 0} (n : ℕ) → Some (numbered_as {K = K} (n + 1)) ≡ maybe_number (n + 1)
+unfolding maybe_number
+number-some n = rw (ne_eqb (n + 1) 0 (omega arith))
+
+pub number-none : {K : Type 0} → None ≡ maybe_number {K = K} 0
+unfolding maybe_number
+number-none = refl
 
 abbrev pub number_kind : (K : Type 0) (last : ℕ) → Kind (Option (Number K))
 number_kind K last =

@@ -2,9 +2,10 @@
 use Prim.Native.Nat.{ℕ, suc, ◌+◌, ◌-◌, ◌≤◌, ◌<◌}
 use native.Mathlib.Numerals.{add-one}
 use native.Mathlib.Omega.{arith}
-use mathlib.Core.Path.{◌≡◌, ◌∙◌}
+use mathlib.Core.Path.{◌≡◌, ◌∙◌, sym}
+use mathlib.Core.Bool.{Bool, true, false, ◌&&◌, ◌||◌}
 use mathlib.Core.List.{List, [], ◌∷◌}
-use Rattle.model.specs.Lists.{count_from, up_to}
+use Rattle.model.specs.Lists.{all, any, first_where, count_from, up_to}
 use Rattle.model.specs.Number.{word_number}
 use Rattle.model.proofs.NumberLaws.{Names, Kind, named, never-unnamed}
 
@@ -59,3 +60,39 @@ module _ {A X : Type 0} {kind : Kind A} {h : List ℕ → X} {n : ℕ} {whole : 
 
   pub kind-done : kind.last < n → whole ≡ h []
   kind-done l = left.rest ∙ rest-done h kind.last n l
+
+-- ---- tests asked of one number after the other, n of them passed by: the numbers that are left decide
+
+module _ (p : ℕ → Bool) (last n : ℕ) (low : n < last) {r : Bool} (tells : r ≡ p (n + 1)) where
+  module _ {whole : Bool} (left : whole ≡ all p (numbers last (n + 1))) where
+    every-here : whole ≡ p (n + 1) && all p (numbers last (n + 1 + 1))
+    every-here = left ∙ rest-here (all p) last (n + 1) (omega arith)
+
+    pub every-stop : r ≡ false → false ≡ whole
+    every-stop failed = sym (every-here ∙ rw (← tells, failed))
+
+    pub every-more : r ≡ true → whole ≡ all p (numbers last (n + 1 + 1))
+    every-more passed = every-here ∙ rw (← tells, passed)
+
+  module _ {whole : Bool} (left : whole ≡ any p (numbers last (n + 1))) where
+    any-of-here : whole ≡ p (n + 1) || any p (numbers last (n + 1 + 1))
+    any-of-here = left ∙ rest-here (any p) last (n + 1) (omega arith)
+
+    pub any-stop : r ≡ true → true ≡ whole
+    any-stop passed = sym (any-of-here ∙ rw (← tells, passed))
+
+    pub any-more : r ≡ false → whole ≡ any p (numbers last (n + 1 + 1))
+    any-more failed = any-of-here ∙ rw (← tells, failed)
+
+  module _ {whole : ℕ} (left : whole ≡ first_where p (numbers last (n + 1))) where
+    first-of-here : whole ≡ elim r [ true ↦ n + 1 | false ↦ first_where p (numbers last (n + 1 + 1)) ]
+    first-of-here = left ∙ rest-here (first_where p) last (n + 1) (omega arith) ∙ rw tells
+
+    pub first-stop : r ≡ true → whole ≡ n + 1
+    first-stop passed = first-of-here ∙ rw passed
+
+    pub first-more : r ≡ false → whole ≡ first_where p (numbers last (n + 1 + 1))
+    first-more failed = first-of-here ∙ rw failed
+
+pub rest-over : {X : Type 0} (h : List ℕ → X) (last n : ℕ) {whole : X} → whole ≡ h (numbers last (n + 1)) → last ≤ n → whole ≡ h []
+rest-over h last n left high = left ∙ rest-done h last (n + 1) (omega arith)

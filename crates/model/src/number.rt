@@ -1,15 +1,17 @@
 // Numbers of tasks, mutexes, buffers and pools, one type over the kind of object: a mutex number can't stand where a task number
 // belongs. Only the range checks here make one.
-ghost use Rattle.std.specs.Prelude.{◌≡◌, ℕ};
+ghost use Rattle.std.specs.Prelude.{◌≡◌, ℕ, Bool};
 ghost use Rattle.model.specs.Sizes.{tasks, mutexes, buffers, pools};
 ghost use Rattle.model.specs.Code.{number, low_byte};
-ghost use Rattle.model.specs.Number.{field_number, word_number, maybe_number, task_word};
+ghost use Rattle.model.specs.Number.{field_number, word_number, numbered_as, maybe_number, task_word};
+ghost use Rattle.model.specs.Lists.{all, any, first_where, up_to};
+ghost use Rattle.model.specs.Valid.{From};
 
 use super::sizes::{BUFFERS, MUTEXES, POOLS, TASKS};
 use std::marker::PhantomData;
 
 // A kind of object, and the last number that one of the kind can have.
-pub trait Object {
+pub trait Object: Copy {
     ghost LAST: { ℕ };
 
     const LAST: u32;
@@ -97,6 +99,52 @@ impl<K: Object> Number<K> {
         ensures { result ≡ maybe_number (word_number n K.LAST) }
     {
         Number::maybe(word_number(n, K::LAST))
+    }
+
+    // Whether a test, which tells p of each number, holds of every number of the kind.
+    pub fn every<F: Fn(Number<K>) -> bool>(test: F) -> bool
+        ghost p: { ℕ → Bool }
+        requires can { (n : ℕ) → From 1 K.LAST n → F.pre test (numbered_as n) }
+        requires tells { (n : ℕ) (r : Bool) → From 1 K.LAST n → F.post test (numbered_as n) r → r ≡ p n }
+        ensures { result ≡ all p (up_to K.LAST) }
+    {
+        for n in 0..K::LAST {
+            if !test(Number(n + 1, PhantomData)) {
+                return false;
+            }
+        }
+        true
+    }
+
+    // Whether it holds of any.
+    pub fn any<F: Fn(Number<K>) -> bool>(test: F) -> bool
+        ghost p: { ℕ → Bool }
+        requires can { (n : ℕ) → From 1 K.LAST n → F.pre test (numbered_as n) }
+        requires tells { (n : ℕ) (r : Bool) → From 1 K.LAST n → F.post test (numbered_as n) r → r ≡ p n }
+        ensures { result ≡ any p (up_to K.LAST) }
+    {
+        for n in 0..K::LAST {
+            if test(Number(n + 1, PhantomData)) {
+                return true;
+            }
+        }
+        false
+    }
+
+    // The first number that it holds of.
+    pub fn first<F: Fn(Number<K>) -> bool>(test: F) -> Option<Number<K>>
+        ghost p: { ℕ → Bool }
+        requires can { (n : ℕ) → From 1 K.LAST n → F.pre test (numbered_as n) }
+        requires tells { (n : ℕ) (r : Bool) → From 1 K.LAST n → F.post test (numbered_as n) r → r ≡ p n }
+        ensures { result ≡ maybe_number (first_where p (up_to K.LAST)) }
+    {
+        for n in 0..K::LAST {
+            let number = Number(n + 1, PhantomData);
+            if test(number) {
+                return Some(number);
+            }
+        }
+        None
     }
 }
 

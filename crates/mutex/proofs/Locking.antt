@@ -1,9 +1,7 @@
 -- loc_mtx, in the order of the code's steps. Assumes nothing.
+use Rattle.std.specs.Prelude.{None, Option, Some}
 use Rattle.model.proofs.Terms.{ℕ, ◌≤◌, arith, ◌≡◌, ◌∙◌, refl, sym, ap, ◌≢◌, Bool, true, false, ◌&&◌, not, none, List, [], ◌∷◌, length, ℤ, eqb, ltb, eq-eqb, ne_eqb, ◌!◌, tasks, mutexes, E_OK, E_PAR, E_ID, E_NOEXS, E_ILUSE, E_TMOUT, number, queue, locking, inherits, ceilinged, Kernel, with_holder, Nothing, with_kernel, running, recompute, settled, millis, wait, Refusal, refuse, first_refusal, bad_timeout, bad_number, no_such, no_time, lock_waits, loc_mtx_refusals, loc_mtx, kernel, word_count, answer_bytes, Each, Priorities, Bitmap, Locking}
-use Rattle.model.specs.Number.{field_number, maybe_mutex}
-use Rattle.model.specs.declared.number.MutexNumber.{MutexNumber}
-use Rattle.model.specs.declared.number.MaybeMutex.{MaybeMutex}
-use Rattle.model.specs.declared.number.MaybeMutex.TheVariants.{Mutex, Nothing as NoMutex}
+use Rattle.model.specs.Number.{field_number, maybe_mutex, MutexNumber}
 use Rattle.model.specs.declared.call.Answer.TheVariants.{Code, Waits}
 use Rattle.model.proofs.NumberLaws.{mutex_kind}
 use Rattle.model.proofs.ByCase.{lock-waits, lock-free}
@@ -56,16 +54,16 @@ module _ (k : Kernel) (mutex timeout : ℤ) {u : ℤ} (u-is : u ≡ timeout) {sh
   unfolding loc_mtx_refusals
   lock-timeout e = timeout-refused timeout u-is short-is named e
 
-  module _ (long : short ≡ false) {b : ℤ} (b-is : b ≡ mutex) {found : MaybeMutex} (from : found ≡ maybe_mutex (field_number b mutexes)) where
+  module _ (long : short ≡ false) {b : ℤ} (b-is : b ≡ mutex) {found : Option MutexNumber} (from : found ≡ maybe_mutex (field_number b mutexes)) where
     made : found ≡ maybe_mutex (field_number mutex mutexes)
     made = rw b-is at from
 
-    pub lock-numberless : found ≡ NoMutex → Refused E_ID ≡ verdict (first_refusal (loc_mtx_refusals k mutex timeout))
+    pub lock-numberless : found ≡ None → Refused E_ID ≡ verdict (first_refusal (loc_mtx_refusals k mutex timeout))
     unfolding loc_mtx_refusals
     lock-numberless e =
         timeout-later timeout u-is short-is named long (number-refused mutex_kind mutex made (no_such k.mutexes.exists mutex ∷ rest) e)
 
-    module _ {m : MutexNumber} (some : found ≡ Mutex m) {x : ℕ} (x-is : x ≡ k.mutexes.exists ! m.0) where
+    module _ {m : MutexNumber} (some : found ≡ Some m) {x : ℕ} (x-is : x ≡ k.mutexes.exists ! m.0) where
       pub lock-missing : x ≡ 0 → Refused E_NOEXS ≡ verdict (first_refusal (loc_mtx_refusals k mutex timeout))
       unfolding loc_mtx_refusals
       lock-missing e =
@@ -138,15 +136,15 @@ module _ (s : List ℕ) (m t : ℕ) (timeout : ℤ) {n : ℕ} (n-is : n ≡ m) {
           (omega (arith, runs, f.high), λ (p : (kernel s).tasks.place ! t ≡ locking). omega (arith, sym p ∙ place))
 
 -- the call
-module _ (mutex timeout : ℤ) {b : ℤ} (b-is : b ≡ mutex) {found : MaybeMutex} (from : found ≡ maybe_mutex (field_number b mutexes)) where
+module _ (mutex timeout : ℤ) {b : ℤ} (b-is : b ≡ mutex) {found : Option MutexNumber} (from : found ≡ maybe_mutex (field_number b mutexes)) where
   named-mutex : found ≡ maybe_mutex (field_number mutex mutexes)
   named-mutex = rw b-is at from
 
-  pub lock-named : (k : Kernel) → first_refusal (loc_mtx_refusals k mutex timeout) ≡ none → found ≡ NoMutex → ⊥
+  pub lock-named : (k : Kernel) → first_refusal (loc_mtx_refusals k mutex timeout) ≡ none → found ≡ None → ⊥
   unfolding loc_mtx_refusals bad_number
   lock-named k e g = never-unnumbered mutex_kind mutex named-mutex (loc_mtx_refusals k mutex timeout) 1 e refl g
 
-  module _ {m : MutexNumber} (some : found ≡ Mutex m) where
+  module _ {m : MutexNumber} (some : found ≡ Some m) where
     number_is : number mutex ≡ m.0
     number_is = (numbered mutex_kind mutex named-mutex some).1
 

@@ -9,16 +9,16 @@ ghost use Rattle.model.specs.Errors.{refusal_of};
 ghost use Rattle.model.specs.Words.{word_count, kernel};
 ghost use Rattle.reply.specs.Replies.{CarriesInWords};
 
-use state::layout::Words;
 use model::attribute::{CEILINGED, of_mutex};
 use model::call::Answer;
 use model::code::{E_LIMIT, Error};
 use model::number::{TaskNumber, natural};
 use model::sizes::PRIORITIES;
-use reply::field::{answer_number, outside};
 use reply::Reply;
+use reply::field::{answer_number, outside};
 use script::log::log_answer;
 use search::unused::unused_mutex;
+use state::layout::Words;
 use state::mutex::{set_attribute, set_ceiling, set_exists};
 
 pub fn refuse_cre_mtx(state: &Words, attribute: i32, ceiling: i32) -> Result<(), Error>

@@ -11,7 +11,6 @@ ghost use Rattle.state.specs.Words.{Represents};
 ghost use Rattle.reply.specs.Replies.{CarriesInLog};
 ghost use Rattle.mutex.specs.Struck.{struck_out};
 
-use state::layout::Words;
 use act::waits::end_waits;
 use model::call::Answer;
 use model::code::{E_DLT, E_OK, Error};
@@ -21,6 +20,7 @@ use order::queue_order;
 use priority::recompute;
 use reply::Reply;
 use script::log::log_answer;
+use state::layout::Words;
 use state::mutex::{exists, set_attribute, set_ceiling, set_exists, set_holder};
 use state::task::LOCKING;
 

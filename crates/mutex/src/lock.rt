@@ -17,16 +17,16 @@ ghost use Rattle.state.specs.Words.{Represents};
 ghost use Rattle.act.specs.Held.{DoesInWords};
 ghost use Rattle.reply.specs.Replies.{CarriesInWords};
 
-use state::layout::Words;
 use act::wait::begin_wait;
 use model::attribute::{CEILINGED, INHERITS};
 use model::call::Answer;
 use model::code::{E_OK, Error};
 use model::number::{MutexNumber, TaskNumber};
 use priority::recompute;
-use reply::field::{bad_timeout, no_time};
 use reply::Reply;
+use reply::field::{bad_timeout, no_time};
 use script::log::log_answer;
+use state::layout::Words;
 use state::mutex::{attribute, ceiling, exists, holder, set_holder};
 use state::task::{LOCKING, base};
 
@@ -40,7 +40,12 @@ fn base_above_ceiling(state: &Words, t: TaskNumber, m: MutexNumber) -> bool
     (a == CEILINGED) & (own < top)
 }
 
-pub fn refuse_loc_mtx(state: &Words, caller: TaskNumber, mutex: i32, timeout: i32) -> Result<(), Error>
+pub fn refuse_loc_mtx(
+    state: &Words,
+    caller: TaskNumber,
+    mutex: i32,
+    timeout: i32,
+) -> Result<(), Error>
     requires { caller.0 ≡ running (kernel state.now) }
     ensures { refusal_of result ≡ first_refusal (loc_mtx_refusals (kernel state.now) mutex timeout) }
 {

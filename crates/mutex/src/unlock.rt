@@ -10,13 +10,13 @@ ghost use Rattle.model.specs.Errors.{refusal_of};
 ghost use Rattle.model.specs.Words.{word_count, kernel};
 ghost use Rattle.reply.specs.Replies.{CarriesInLog};
 
-use state::layout::Words;
 use act::mutex::release_settled;
 use model::call::Answer;
 use model::code::{E_OK, Error};
 use model::number::{MutexNumber, TaskNumber};
 use reply::Reply;
 use script::log::log_answer;
+use state::layout::Words;
 use state::mutex::{exists, holder};
 
 pub fn refuse_unl_mtx(state: &Words, caller: TaskNumber, mutex: i32) -> Result<(), Error>

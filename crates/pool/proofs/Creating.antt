@@ -1,9 +1,7 @@
 -- cre_mpf, in the order of the code's steps. Assumes nothing.
+use Rattle.std.specs.Prelude.{None, Option, Some}
 use Rattle.model.proofs.Terms.{ℕ, ◌+◌, ◌*◌, ◌≡◌, ◌∙◌, refl, Bool, true, false, ◌||◌, not, none, List, [], ◌∷◌, length, ℤ, pos, lt_z, ltb, pools, blocks, block_bytes, pool_bytes, member, E_RSATR, E_PAR, E_NOMEM, E_LIMIT, number, Kernel, unused, Refusal, refuse, first_refusal, outside, pool_attributes, bad_field, none_free, pool_sum, cre_mpf_refusals, cre_mpf, kernel, word_count, answer_bytes}
-use Rattle.model.specs.Number.{maybe_pool}
-use Rattle.model.specs.declared.number.PoolNumber.{PoolNumber}
-use Rattle.model.specs.declared.number.MaybePool.{MaybePool}
-use Rattle.model.specs.declared.number.MaybePool.TheVariants.{Pool, Nothing as NoPool}
+use Rattle.model.specs.Number.{maybe_pool, PoolNumber}
 use Rattle.model.specs.declared.call.Answer.{Answer}
 use Rattle.model.specs.declared.call.Answer.TheVariants.{Code}
 use Rattle.model.proofs.NumberLaws.{pool_kind}
@@ -52,15 +50,15 @@ module _ (k : Kernel) (attribute count size : ℤ) {b : ℤ} (b-is : b ≡ attri
       pub create-size : wide ≡ true → Refused E_PAR ≡ verdict (first_refusal (cre_mpf_refusals k attribute count size))
       create-size e = after-count (field-refused (pos 1) (pos block_bytes) size d-is wide_is (full ∷ beyond ∷ []) e)
 
-      module _ (sized : wide ≡ false) {found : MaybePool} (from : found ≡ maybe_pool (unused k.pools.exists pools)) where
+      module _ (sized : wide ≡ false) {found : Option PoolNumber} (from : found ≡ maybe_pool (unused k.pools.exists pools)) where
         after-size : {v : Verdict} → v ≡ verdict (first_refusal (full ∷ beyond ∷ []))
             → v ≡ verdict (first_refusal (cre_mpf_refusals k attribute count size))
         after-size f = after-count (field-later (pos 1) (pos block_bytes) size d-is wide_is (full ∷ beyond ∷ []) sized f)
 
-        pub create-full : found ≡ NoPool → Refused E_LIMIT ≡ verdict (first_refusal (cre_mpf_refusals k attribute count size))
+        pub create-full : found ≡ None → Refused E_LIMIT ≡ verdict (first_refusal (cre_mpf_refusals k attribute count size))
         create-full e = after-size (full-refused pool_kind k.pools.exists from (beyond ∷ []) e)
 
-        module _ {p : PoolNumber} (some : found ≡ Pool p) {more : ℕ} (more-is : more ≡ number c * number d) {above : Bool}
+        module _ {p : PoolNumber} (some : found ≡ Some p) {more : ℕ} (more-is : more ≡ number c * number d) {above : Bool}
             (above-is : above ≡ ltb pool_bytes (pool_sum k + more)) where
           asked : ltb pool_bytes (pool_sum k + number count * number size) ≡ above
           asked = cc
@@ -72,14 +70,14 @@ module _ (k : Kernel) (attribute count size : ℤ) {b : ℤ} (b-is : b ≡ attri
           create-allowed e = after-size (unused-later pool_kind k.pools.exists from (beyond ∷ []) some (refused-later beyond [] (asked ∙ e) refl))
 
 -- and what it does
-pub create-room : (k : Kernel) (attribute count size : ℤ) {found : MaybePool} → found ≡ maybe_pool (unused k.pools.exists pools)
-    → first_refusal (cre_mpf_refusals k attribute count size) ≡ none → found ≡ NoPool → ⊥
+pub create-room : (k : Kernel) (attribute count size : ℤ) {found : Option PoolNumber} → found ≡ maybe_pool (unused k.pools.exists pools)
+    → first_refusal (cre_mpf_refusals k attribute count size) ≡ none → found ≡ None → ⊥
 unfolding cre_mpf_refusals none_free
 create-room k attribute count size made e g = never-full pool_kind k.pools.exists made (cre_mpf_refusals k attribute count size) 3 e refl g
 
 pub creates-pool : (attribute count size : ℤ) {b c d : ℤ} → b ≡ attribute → c ≡ count → d ≡ size → (caller : ℕ) {s log l1 s' : List ℕ}
-    {at next a x y n : ℕ} {found : MaybePool} {p : PoolNumber} {answer : Answer} → length s ≡ word_count
-    → found ≡ maybe_pool (unused (kernel s).pools.exists pools) → found ≡ Pool p → n ≡ p.0 → answer ≡ Code (pos n)
+    {at next a x y n : ℕ} {found : Option PoolNumber} {p : PoolNumber} {answer : Answer} → length s ≡ word_count
+    → found ≡ maybe_pool (unused (kernel s).pools.exists pools) → found ≡ Some p → n ≡ p.0 → answer ≡ Code (pos n)
     → Appends log at (answer_bytes answer) l1 next → a ≡ number b → x ≡ number c → y ≡ number d → Represents s' (pool_row (kernel s) p.0 1 a x y)
     → CarriesInWords caller (λ w. cre_mpf w (number attribute) (number count) (number size)) s log at s' l1 (record { answer = answer; next = next })
 unfolding cre_mpf

@@ -1,9 +1,7 @@
 -- get_mpf, in the order of the code's steps. Assumes nothing.
+use Rattle.std.specs.Prelude.{None, Option, Some}
 use Rattle.model.proofs.Terms.{ℕ, ◌≡◌, ◌∙◌, refl, sym, ◌≢◌, Bool, true, false, none, List, [], ◌∷◌, length, ℤ, eqb, ◌!◌, pools, E_OK, E_PAR, E_ID, E_NOEXS, E_TMOUT, number, queue, getting, Kernel, with_taken, slot, Nothing, Block, running, wait, Refusal, first_refusal, bad_timeout, bad_number, no_such, no_time, free_block, get_mpf_refusals, get_mpf, kernel, word_count, answer_bytes, delivery_bytes}
-use Rattle.model.specs.Number.{field_number, maybe_pool}
-use Rattle.model.specs.declared.number.PoolNumber.{PoolNumber}
-use Rattle.model.specs.declared.number.MaybePool.{MaybePool}
-use Rattle.model.specs.declared.number.MaybePool.TheVariants.{Pool, Nothing as NoPool}
+use Rattle.model.specs.Number.{field_number, maybe_pool, PoolNumber}
 use Rattle.model.specs.declared.call.Answer.TheVariants.{Code, Waits}
 use Rattle.model.proofs.NumberLaws.{pool_kind}
 use Rattle.model.proofs.ByCase.{get-waits, get-block}
@@ -29,7 +27,7 @@ module _ (k : Kernel) (pool timeout : ℤ) {u : ℤ} (u-is : u ≡ timeout) {sho
   unfolding get_mpf_refusals
   get-timeout e = timeout-refused timeout u-is short-is named e
 
-  module _ (long : short ≡ false) {b : ℤ} (b-is : b ≡ pool) {found : MaybePool} (from : found ≡ maybe_pool (field_number b pools)) where
+  module _ (long : short ≡ false) {b : ℤ} (b-is : b ≡ pool) {found : Option PoolNumber} (from : found ≡ maybe_pool (field_number b pools)) where
     made : found ≡ maybe_pool (field_number pool pools)
     made = rw b-is at from
 
@@ -37,10 +35,10 @@ module _ (k : Kernel) (pool timeout : ℤ) {u : ℤ} (u-is : u ≡ timeout) {sho
     unfolding get_mpf_refusals
     after-timeout f = timeout-later timeout u-is short-is named long f
 
-    pub get-numberless : found ≡ NoPool → Refused E_ID ≡ verdict (first_refusal (get_mpf_refusals k pool timeout))
+    pub get-numberless : found ≡ None → Refused E_ID ≡ verdict (first_refusal (get_mpf_refusals k pool timeout))
     get-numberless e = after-timeout (number-refused pool_kind pool made (no_such k.pools.exists pool ∷ late ∷ []) e)
 
-    module _ {p : PoolNumber} (some : found ≡ Pool p) {x : ℕ} (x-is : x ≡ k.pools.exists ! p.0) where
+    module _ {p : PoolNumber} (some : found ≡ Some p) {x : ℕ} (x-is : x ≡ k.pools.exists ! p.0) where
       pub get-missing : x ≡ 0 → Refused E_NOEXS ≡ verdict (first_refusal (get_mpf_refusals k pool timeout))
       get-missing e = after-timeout (missing-refused pool_kind pool made k.pools.exists (late ∷ []) some x-is e)
 
@@ -58,15 +56,15 @@ module _ (k : Kernel) (pool timeout : ℤ) {u : ℤ} (u-is : u ≡ timeout) {sho
         get-allowed e = lately (time-later timeout (eqb (free_block k (number pool)) 0) u-is waits-is r-is [] e refl)
 
 -- and what it does
-module _ (pool timeout : ℤ) {b : ℤ} (b-is : b ≡ pool) {found : MaybePool} (from : found ≡ maybe_pool (field_number b pools)) where
+module _ (pool timeout : ℤ) {b : ℤ} (b-is : b ≡ pool) {found : Option PoolNumber} (from : found ≡ maybe_pool (field_number b pools)) where
   named-pool : found ≡ maybe_pool (field_number pool pools)
   named-pool = rw b-is at from
 
-  pub get-named : (k : Kernel) → first_refusal (get_mpf_refusals k pool timeout) ≡ none → found ≡ NoPool → ⊥
+  pub get-named : (k : Kernel) → first_refusal (get_mpf_refusals k pool timeout) ≡ none → found ≡ None → ⊥
   unfolding get_mpf_refusals bad_number
   get-named k e g = never-unnumbered pool_kind pool named-pool (get_mpf_refusals k pool timeout) 1 e refl g
 
-  module _ {p : PoolNumber} (some : found ≡ Pool p) where
+  module _ {p : PoolNumber} (some : found ≡ Some p) where
     number_is : number pool ≡ p.0
     number_is = (numbered pool_kind pool named-pool some).1
 

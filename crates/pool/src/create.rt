@@ -11,17 +11,17 @@ ghost use Rattle.state.specs.Words.{Represents};
 ghost use Rattle.reply.specs.Replies.{CarriesInWords};
 ghost use Rattle.pool.specs.Rows.{pool_row};
 
-use state::layout::Words;
 use model::attribute::of_pool;
 use model::call::Answer;
 use model::code::{E_OK, Error};
 use model::number::{PoolNumber, TaskNumber, natural};
 use model::sizes::{BLOCK_BYTES, BLOCKS};
-use reply::field::{answer_number, outside};
 use reply::Reply;
+use reply::field::{answer_number, outside};
 use script::log::log_answer;
 use search::room::pools_exceed;
 use search::unused::unused_pool;
+use state::layout::Words;
 use state::pool;
 
 // A pool's bytes, asked of fields that are in range alone.

@@ -11,7 +11,6 @@ ghost use Rattle.state.specs.Words.{Represents};
 ghost use Rattle.reply.specs.Replies.{CarriesInLog};
 ghost use Rattle.pool.specs.Rows.{all_freed, struck_out};
 
-use state::layout::Words;
 use super::create::set_row;
 use act::waits::end_waits;
 use model::call::Answer;
@@ -21,6 +20,7 @@ use model::sizes::{BLOCKS, PLACES};
 use order::queue_order;
 use reply::Reply;
 use script::log::log_answer;
+use state::layout::Words;
 use state::pool::{exists, set_taken};
 use state::task::GETTING;
 

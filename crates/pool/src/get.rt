@@ -9,15 +9,15 @@ ghost use Rattle.model.specs.Errors.{refusal_of};
 ghost use Rattle.model.specs.Words.{word_count, kernel};
 ghost use Rattle.reply.specs.Replies.{CarriesInWords};
 
-use state::layout::Words;
 use act::wait::wait;
 use model::call::Answer;
 use model::code::{E_OK, Error};
 use model::number::{PoolNumber, TaskNumber};
-use reply::field::{bad_timeout, no_time};
 use reply::Reply;
+use reply::field::{bad_timeout, no_time};
 use script::log::{log_answer, log_block};
 use search::block::free_block;
+use state::layout::Words;
 use state::pool::{exists, set_taken};
 use state::task::GETTING;
 

@@ -9,7 +9,6 @@ ghost use Rattle.model.specs.Words.{word_count, kernel};
 ghost use Rattle.act.specs.Held.{DoesInLog};
 ghost use Rattle.reply.specs.Replies.{CarriesInLog};
 
-use state::layout::Words;
 use act::wait::end_wait_block;
 use model::call::Answer;
 use model::code::{E_OK, Error};
@@ -18,6 +17,7 @@ use queue::front::front;
 use reply::Reply;
 use script::log::log_answer;
 use search::block::handed_out;
+use state::layout::Words;
 use state::pool::{exists, set_taken};
 use state::task::GETTING;
 

@@ -1,4 +1,5 @@
 -- Laws of a task's own priority, mutex by mutex, and of who holds ceilings. Assumes nothing.
+use Rattle.std.specs.Prelude.{None, Option}
 use Prim.Native.Nat.{ℕ, zero, suc, ◌+◌, ◌≤◌, min}
 use native.Mathlib.Nat.{add-zero, add-suc, suc-add}
 use native.Mathlib.Numerals.{one-add}
@@ -14,8 +15,7 @@ use Rattle.model.specs.Lists.{◌!◌, count_from, select, keep}
 use Rattle.model.specs.Facts.{ceilinged}
 use Rattle.model.specs.Priority.{most_urgent, own_priority}
 use Rattle.model.specs.Kernel.{Kernel, facts}
-use Rattle.model.specs.Number.{word_number, maybe_task}
-use Rattle.model.specs.declared.number.MaybeTask as m_task
+use Rattle.model.specs.Number.{word_number, maybe_task, TaskNumber, maybe_number}
 use Rattle.model.proofs.NumberLaws.{Names, NamesNone, numbered-at}
 use Rattle.priority.specs.Least.{least}
 use Rattle.priority.specs.Own.{own_of, base_of, holds_ceiling, with_ceiling_of, ceiling_holder}
@@ -142,6 +142,6 @@ module _ (k : Kernel) {n m : ℕ} (names : Names mutexes n m) where
   unfolding ceiling_holder facts
   holder-counts e = rw (← names.0, numbered-at k.mutexes.attribute m low, numbered-at k.mutexes.holder m low, eq-eqb _ _ e)
 
-  pub holder-not : (k.mutexes.attribute ! m ≡ ceilinged → ⊥) → m_task.TheVariants.Nothing ≡ maybe_task (word_number (ceiling_holder k n) tasks)
-  unfolding ceiling_holder facts maybe_task word_number
+  pub holder-not : (k.mutexes.attribute ! m ≡ ceilinged → ⊥) → None ≡ maybe_task (word_number (ceiling_holder k n) tasks)
+  unfolding ceiling_holder facts maybe_number word_number
   holder-not e = rw (← names.0, numbered-at k.mutexes.attribute m low, ne_eqb _ _ e)

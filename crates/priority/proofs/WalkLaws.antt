@@ -1,4 +1,5 @@
 -- Laws of the two walks: each way through the code. Assumes nothing.
+use Rattle.std.specs.Prelude.{None, Option}
 use Prim.Native.Nat.{ℕ, suc, ◌≤◌, ◌<◌}
 use native.Mathlib.Omega.{arith}
 use mathlib.Core.Path.{◌≡◌, ◌∙◌, refl, sym, ap}
@@ -13,8 +14,7 @@ use Rattle.model.specs.Lists.{◌!◌}
 use Rattle.model.specs.Facts.{locking, inherits}
 use Rattle.model.specs.Priority.{holder_awaited}
 use Rattle.model.specs.Kernel.{Kernel, facts, stands_in, with_tasks, with_current, with_currents}
-use Rattle.model.specs.Number.{word_number, maybe_mutex}
-use Rattle.model.specs.declared.number.MaybeMutex as m_mutex
+use Rattle.model.specs.Number.{word_number, maybe_mutex, MutexNumber, maybe_number}
 use Rattle.model.proofs.NumberLaws.{Names, NamesNone, numbered-at, numbered-none}
 use Rattle.model.specs.Words.{word_count, sizes, fields, kernel}
 use Rattle.state.proofs.WordLaws.{places-long, sized, size_of, currents-long}
@@ -119,6 +119,6 @@ module _ (k : Kernel) (t : ℕ) (low : 1 ≤ t) where
   unfolding mutex_awaited facts
   locks e = rw (numbered-at k.tasks.place t low, numbered-at k.tasks.object t low, eq-eqb _ _ e)
 
-  pub locks-not : (k.tasks.place ! t ≡ locking → ⊥) → m_mutex.TheVariants.Nothing ≡ maybe_mutex (word_number (mutex_awaited (facts k) t) mutexes)
-  unfolding mutex_awaited facts maybe_mutex word_number
+  pub locks-not : (k.tasks.place ! t ≡ locking → ⊥) → None ≡ maybe_mutex (word_number (mutex_awaited (facts k) t) mutexes)
+  unfolding mutex_awaited facts maybe_number word_number
   locks-not e = rw (numbered-at k.tasks.place t low, ne_eqb _ _ e)

@@ -13,10 +13,10 @@ ghost use Rattle.state.specs.Words.{Represents};
 ghost use Rattle.priority.specs.Own.{base_of};
 ghost use Rattle.priority.specs.Afresh.{at_bases, at_own, holder_at_own, passed_on, worked_out};
 
-use state::layout::Words;
 use model::number::TaskNumber;
 use model::sizes::{MUTEXES, TASKS};
 use ready::renew_bits;
+use state::layout::Words;
 use state::task;
 
 // Every current priority becomes the effective one, whatever the words hold, and the bits of the priorities that have a ready task go with

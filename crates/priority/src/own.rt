@@ -5,10 +5,10 @@ ghost use Rattle.model.specs.Number.{word_number, maybe_task};
 ghost use Rattle.model.specs.Words.{word_count, kernel};
 ghost use Rattle.priority.specs.Own.{own_of, with_ceiling_of, ceiling_holder};
 
-use state::layout::Words;
 use model::attribute::CEILINGED;
 use model::number::{MutexNumber, TaskNumber};
 use model::sizes::MUTEXES;
+use state::layout::Words;
 use state::{mutex, task};
 
 // The most urgent of the task's base priority and the ceilings that it holds. Entry 0 of a field stands for no task, whatever it

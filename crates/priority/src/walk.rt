@@ -8,9 +8,9 @@ ghost use Rattle.model.specs.Words.{word_count, kernel};
 ghost use Rattle.state.specs.Words.{Represents};
 ghost use Rattle.priority.specs.Walk.{mutex_awaited, passes_to, raised_kernel};
 
-use state::layout::Words;
 use model::attribute::INHERITS;
 use model::number::{MutexNumber, TaskNumber};
+use state::layout::Words;
 use state::{mutex, task};
 
 // The task is raised to p, and so is each that it leads to in turn, until one is as urgent already. Entry 0 of a field stands for no

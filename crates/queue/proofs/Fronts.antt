@@ -1,4 +1,5 @@
 -- The front of any queue of the kernel, as the searches find it, and who would head it. Assumes nothing.
+use Rattle.std.specs.Prelude.{None, Option, Some}
 use Prim.Native.Nat.{ℕ, ◌≤◌}
 use native.Mathlib.Omega.{arith}
 use mathlib.Core.Path.{◌≡◌, ◌∙◌, refl, sym, ap, ap₂, subst}
@@ -9,15 +10,12 @@ use lib.Dec.{eqb, ltb}
 use borrow.Author.Tests.{eq-eqb, ne_eqb}
 use Rattle.model.specs.Sizes.{tasks}
 use Rattle.model.specs.Lists.{◌!◌, select, member, head_of}
-use Rattle.model.specs.Number.{word_number, maybe_task}
+use Rattle.model.specs.Number.{word_number, maybe_task, TaskNumber}
 use Rattle.model.specs.Facts.{Queue}
 use Rattle.model.specs.Queue.{by_priority, sorted, ordered, order, front, would_head}
 use Rattle.model.specs.Kernel.{Kernel, stands_in, facts}
 use Rattle.model.specs.World.{queue_front, heads_queue}
 use Rattle.model.proofs.ListLaws.{or_left, member-middle}
-use Rattle.model.specs.declared.number.TaskNumber.{TaskNumber}
-use Rattle.model.specs.declared.number.MaybeTask.{MaybeTask}
-use Rattle.model.specs.declared.number.MaybeTask as m_task
 use Rattle.model.proofs.NumberLaws.{word-in-range, task-is, task-is-none}
 use Rattle.queue.proofs.ArrivalLaws.{member-select}
 use Rattle.queue.proofs.First.{sorted-first, first-unique, last-first}
@@ -159,11 +157,11 @@ module _ (k : Kernel) (q : Queue) where
 
 -- ---- the same by what the code has found: the first, its number a and the task's number b, and whether the order is by priority
 
-module _ (k : Kernel) (q : Queue) (t : ℕ) {f : MaybeTask} (is : f ≡ maybe_task (queue_front k q)) where
-  pub head-nobody : f ≡ m_task.TheVariants.Nothing → true ≡ heads_queue k q t
+module _ (k : Kernel) (q : Queue) (t : ℕ) {f : Option TaskNumber} (is : f ≡ maybe_task (queue_front k q)) where
+  pub head-nobody : f ≡ None → true ≡ heads_queue k q t
   head-nobody e = heads-empty k q t (task-is-none _ (sym is ∙ e))
 
-  module _ {u : TaskNumber} {a b : ℕ} (e : f ≡ m_task.TheVariants.Task u) (x : a ≡ u.0) (y : b ≡ t) where
+  module _ {u : TaskNumber} {a b : ℕ} (e : f ≡ Some u) (x : a ≡ u.0) (y : b ≡ t) where
     names : (u.0 ≡ queue_front k q) × (queue_front k q ≢ 0)
     names = task-is _ _ (sym is ∙ e)
 

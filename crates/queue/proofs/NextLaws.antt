@@ -1,4 +1,5 @@
 -- The search for the next to run, priority by priority and place by place: what is left decides what is found. Assumes nothing.
+use Rattle.std.specs.Prelude.{None}
 use Prim.Native.Nat.{ℕ, zero, suc, ◌+◌, ◌-◌, ◌≤◌, ◌<◌}
 use native.Mathlib.Numerals.{add-one}
 use native.Mathlib.Decide.{dec_le}
@@ -15,7 +16,6 @@ use borrow.Author.Tests.{eq-eqb}
 use Rattle.model.specs.Sizes.{tasks, priorities}
 use Rattle.model.specs.Lists.{◌!◌, count_from, up_to, keep, select, first_where, member}
 use Rattle.model.specs.Number.{word_number, maybe_task}
-use Rattle.model.specs.declared.number.MaybeTask.TheVariants.{Nothing}
 use Rattle.model.specs.Facts.{ready, ready_queue}
 use Rattle.model.specs.Queue.{search_ready, next_to_run, ready_at, ready_bitmap}
 use Rattle.model.specs.Kernel.{Kernel, numbered, stands_in, facts}
@@ -137,7 +137,7 @@ search-start w h right word e =
           (λ q low high inside. nobody-ready (kernel w) q (unset (kernel w) q right low (omega (arith, ap (count_trailing_zeros 32) e)) inside));
     }
 
-pub search-done : (w : List ℕ) (p : ℕ) → priorities < p → Searching w p → Nothing ≡ maybe_task (running (kernel w))
+pub search-done : (w : List ℕ) (p : ℕ) → priorities < p → Searching w p → None ≡ maybe_task (running (kernel w))
 search-done w p h s =
     let z : suc priorities - p ≡ 0 = omega arith in
     sym (task-zero (running (kernel w)) (s.left ∙ ap (λ (n : ℕ). search_ready (kernel w).tasks.current (ts (kernel w)) (count_from p n)) z))

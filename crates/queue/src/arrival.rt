@@ -9,11 +9,11 @@ ghost use Rattle.model.specs.Words.{word_count, kernel};
 ghost use Rattle.state.specs.Words.{Represents};
 ghost use Rattle.queue.specs.Arriving.{Kept, Gathered, cleared_from};
 
-use state::layout::Words;
 use model::number::TaskNumber;
 use model::sizes::PLACES;
 use ready::renew_bit;
 use state::arrival::{set_task, task};
+use state::layout::Words;
 
 // One place of the order is seen, when j others have been found: its task is kept behind them, unless it is t or none.
 fn keep(state: &mut Words, t: TaskNumber, i: usize, j: usize) -> usize

@@ -9,11 +9,11 @@ ghost use Rattle.model.specs.World.{queue_front, heads_queue};
 ghost use Rattle.model.specs.Words.{word_count, kernel};
 ghost use Rattle.queue.specs.Better.{better};
 
-use state::layout::Words;
 use model::attribute::{BY_ARRIVAL, BY_PRIORITY, PROTECTION};
 use model::number::{BufferNumber, MutexNumber, PoolNumber, TaskNumber};
 use model::sizes::PLACES;
 use state::arrival::task;
+use state::layout::Words;
 use state::task::{GETTING, LOCKING, READY, SENDING};
 
 // Whether the task of a number stands in a queue; a number that is no task's stands nowhere.

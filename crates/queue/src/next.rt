@@ -8,12 +8,12 @@ ghost use Rattle.model.specs.World.{running};
 ghost use Rattle.model.specs.Valid.{Bitmap};
 ghost use Rattle.model.specs.Words.{word_count, kernel};
 
-use state::layout::Words;
 use super::front::{current, stands_in};
 use model::number::TaskNumber;
 use model::sizes::{PLACES, PRIORITIES};
 use state::arrival::task;
 use state::bitmap::bits;
+use state::layout::Words;
 use state::task::READY;
 
 // Whether the task of a number stands in the ready queue, at a priority.

@@ -1,5 +1,6 @@
 -- Laws of the bits of priorities: one bit worked out afresh puts the word right where no other priority has changed, and one pass over the
 -- tasks gives the whole word. Assumes nothing.
+use Rattle.std.specs.Prelude.{None, Option, Some}
 use Rattle.model.proofs.Terms.{ℕ, zero, suc, ◌+◌, ◌*◌, ◌-◌, ◌^◌, ◌≤◌, ◌<◌, ℕ_discrete, arith, ◌≡◌, ◌∙◌, refl, sym, ap, ap₂, fun_ext, ◌≢◌, Bool, true, false, false≢true, ◌&&◌, ◌||◌, cond, List, [], ◌∷◌, map, foldl, length, set, eqb, leb, eq-eqb, ne_eqb, le-leb, lt-leb, leb-true, leb-false, tasks, priorities, ◌!◌, count_from, up_to, any, ready, Queue, Facts, ready_at, ready_bitmap, with_priority, kernel, word_count, Kernel, numbered, with_tasks, with_arrivals, with_place, with_object, arrived, stands_in, facts, with_bitmap, with_fresh_bit, with_fresh_bits, arrive}
 use Prim.Native.Nat.{◌%◌}
 use native.Mathlib.Nat.{one-mul}
@@ -12,10 +13,7 @@ use Rattle.model.specs.Valid.{Bitmap}
 use Rattle.model.proofs.ListLaws.{map-agree, some-passes, member-count_from, or_left, or_right, by-test}
 use Rattle.model.proofs.Rest.{numbers, rest_all, rest-here, rest-done}
 use Rattle.model.proofs.NumberLaws.{Names, NamesNone, names-one, numbered-at, numbered-none, numbered-other, word-in-range, task-zero, task-is, task-is-none}
-use Rattle.model.specs.Number.{word_number, maybe_task}
-use Rattle.model.specs.declared.number.TaskNumber.{TaskNumber}
-use Rattle.model.specs.declared.number.MaybeTask.{MaybeTask}
-use Rattle.model.specs.declared.number.MaybeTask.TheVariants.{Task, Nothing as NoTask}
+use Rattle.model.specs.Number.{word_number, maybe_task, TaskNumber}
 use Rattle.state.specs.Words.{Represents}
 use Rattle.state.proofs.WordLaws.{places-long}
 use Rattle.ready.specs.Tasks.{is_ready, ready_task, is_ready_at, with_task}
@@ -150,29 +148,11 @@ module _ (k : Kernel) (p : ℕ) where
       inside : (1 ≤ n) × (n < 1 + tasks)
       inside = let r = names-one tasks n (λ none. false≢true (sym (none-ready k n long none) ∙ stands)) in (r.0, omega (arith, r.1))
 
-  -- the tasks from a number on decide whether there is one,
-  pub ready-all : ready_at (facts k) k.tasks.current p ≡ any (is_ready_at k p) (numbers tasks 1)
-  unfolding ready_at is_ready_at is_ready
-  ready-all = rest_all (any (is_ready_at k p)) tasks
-
-  module _ {n : ℕ} (left : ready_at (facts k) k.tasks.current p ≡ any (is_ready_at k p) (numbers tasks n)) where
-    here : n ≤ tasks → ready_at (facts k) k.tasks.current p ≡ is_ready_at k p n || any (is_ready_at k p) (numbers tasks (n + 1))
-    here l = left ∙ rest-here (any (is_ready_at k p)) tasks n l
-
-    pub ready-hit : n ≤ tasks → {r : Bool} → r ≡ is_ready_at k p n → r ≡ true → true ≡ ready_at (facts k) k.tasks.current p
-    ready-hit l e t = sym (here l ∙ or_left _ _ (sym e ∙ t))
-
-    pub ready-more : n ≤ tasks → {r : Bool} → r ≡ is_ready_at k p n → r ≡ false → ready_at (facts k) k.tasks.current p ≡ any (is_ready_at k p) (numbers tasks (n + 1))
-    ready-more l e f = here l ∙ ap (λ (b : Bool). b || any (is_ready_at k p) (numbers tasks (n + 1))) (sym e ∙ f)
-
-    pub ready-end : tasks < n → false ≡ ready_at (facts k) k.tasks.current p
-    ready-end l = sym (left ∙ rest-done (any (is_ready_at k p)) tasks n l)
-
 -- ---- as the words are asked
 
 -- the task of a number that is ready
 module _ (w : List ℕ) (n : ℕ) where
-  pub none_found : length w ≡ word_count → NamesNone tasks n → NoTask ≡ maybe_task (ready_task (kernel w) n)
+  pub none_found : length w ≡ word_count → NamesNone tasks n → None ≡ maybe_task (ready_task (kernel w) n)
   unfolding ready_task
   none_found h none = rw (none-ready (kernel w) n (places-long w h) none) (sym (task-zero 0 refl))
 
@@ -181,7 +161,7 @@ module _ (w : List ℕ) (n : ℕ) where
     unfolding facts
     place_is = numbered-at (kernel w).tasks.place n names.1 ∙ ap (λ (i : ℕ). (kernel w).tasks.place ! i) (sym names.0) ∙ sym e
 
-    pub elsewhere-found : place ≢ ready → NoTask ≡ maybe_task (ready_task (kernel w) n)
+    pub elsewhere-found : place ≢ ready → None ≡ maybe_task (ready_task (kernel w) n)
     unfolding ready_task is_ready
     elsewhere-found d = rw (place_is, ne_eqb place ready d) (sym (task-zero 0 refl))
 
@@ -196,7 +176,7 @@ module _ (k : Kernel) (n : ℕ) where
   unfolding is_ready facts
   never-none q = false≢true q
 
-  found_none : maybe_task (ready_task k n) ≡ NoTask → is_ready k n ≡ false
+  found_none : maybe_task (ready_task k n) ≡ None → is_ready k n ≡ false
   unfolding ready_task
   found_none e = go (is_ready k n) refl (task-is-none _ e)
     where
@@ -204,7 +184,7 @@ module _ (k : Kernel) (n : ℕ) where
       go true q z = absurd (never-none (ap (is_ready k) (sym z) ∙ q))
       go false q z = refl
 
-  found-one : (x : TaskNumber) → maybe_task (ready_task k n) ≡ Task x → (is_ready k n ≡ true) × (x.0 ≡ n)
+  found-one : (x : TaskNumber) → maybe_task (ready_task k n) ≡ Some x → (is_ready k n ≡ true) × (x.0 ≡ n)
   unfolding ready_task
   found-one x e = let t = task-is _ x e in go (is_ready k n) refl t.0 t.1
     where
@@ -212,16 +192,16 @@ module _ (k : Kernel) (n : ℕ) where
       go true q f d = (refl, f)
       go false q f d = absurd (d refl)
 
-  module _ {found : MaybeTask} (is : found ≡ maybe_task (ready_task k n)) where
-    pub not-ready-at : (p : ℕ) → found ≡ NoTask → false ≡ is_ready_at k p n
+  module _ {found : Option TaskNumber} (is : found ≡ maybe_task (ready_task k n)) where
+    pub not-ready-at : (p : ℕ) → found ≡ None → false ≡ is_ready_at k p n
     unfolding is_ready_at
     not-ready-at p e = rw (found_none (sym is ∙ e))
 
-    pub adds-nothing : (word : ℕ) → found ≡ NoTask → word ≡ with_task k word n
+    pub adds-nothing : (word : ℕ) → found ≡ None → word ≡ with_task k word n
     unfolding with_task
     adds-nothing word e = rw (found_none (sym is ∙ e))
 
-    module _ {x : TaskNumber} (e : found ≡ Task x) {current : ℕ} (c : current ≡ k.tasks.current ! x.0) where
+    module _ {x : TaskNumber} (e : found ≡ Some x) {current : ℕ} (c : current ≡ k.tasks.current ! x.0) where
       pub ready-at-is : (p : ℕ) → eqb current p ≡ is_ready_at k p n
       unfolding is_ready_at
       ready-at-is p = let f = found-one x (sym is ∙ e) in rw (f.0, c, f.1)

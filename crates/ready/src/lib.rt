@@ -13,11 +13,11 @@ ghost use Rattle.model.specs.Words.{word_count, kernel};
 ghost use Rattle.state.specs.Words.{Represents};
 ghost use Rattle.ready.specs.Tasks.{ready_task, is_ready_at, with_task};
 
-use state::layout::Words;
 use bit::with_priority;
 use model::number::TaskNumber;
 use model::sizes::TASKS;
 use state::bitmap::{bits, set_bits};
+use state::layout::Words;
 use state::task;
 use state::task::READY;
 
@@ -51,12 +51,7 @@ fn task_ready_at(state: &Words, n: u32, p: u32) -> bool
 fn any_ready_at(state: &Words, p: u32) -> bool
     ensures { result ≡ ready_at (facts (kernel state.now)) (kernel state.now).tasks.current p }
 {
-    for n in 1..=TASKS {
-        if task_ready_at(state, n, p) {
-            return true;
-        }
-    }
-    false
+    TaskNumber::any(|t| task_ready_at(state, t.word(), p))
 }
 
 // The same, one number first: a task that has become ready at the priority spares the search.

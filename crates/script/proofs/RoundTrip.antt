@@ -13,12 +13,11 @@ use lib.Signed.{mag}
 use Rattle.model.proofs.NumberLaws.{number4-bytes4}
 use Rattle.model.specs.declared.call.Call.{Call}
 use Rattle.model.specs.declared.call.Cursor.{Cursor}
-use Rattle.model.specs.declared.call.Read.TheVariants.{Record}
+use Rattle.std.specs.Prelude.{Ok}
 use Rattle.model.specs.Lists.{◌!◌, joined, count_from}
 use Rattle.model.specs.Code.{bytes4, number4, signed, bits, code_bytes}
-use Rattle.model.specs.Record.{Fit, FieldsFit, row_of, field, read_here, read_record, message_here, record_message, kind_of, fields_of, record_bytes}
+use Rattle.model.specs.Record.{Fit, FieldsFit, row_of, field, found, read_here, read_record, message_here, record_message, kind_of, fields_of, record_bytes}
 use Rattle.script.specs.Body.{field_at}
-use Rattle.script.specs.declared.writer.Wrote.TheVariants.{Next}
 use Rattle.model.specs.Message.{over}
 use Rattle.script.specs.Write.{message_length, Writes}
 use Rattle.script.proofs.Signed.{signed-bits, bits-signed}
@@ -111,43 +110,43 @@ module _ (at : ℕ) (c : Call) (message rest : List ℕ) (fit : FieldsFit c) (si
   abbrev fields : List ℕ
   fields = joined (map code_bytes (fields_of c))
 
-  abbrev found : CallRow c (row_of (kind_of c))
-  found = call-row c
+  abbrev its-row : CallRow c (row_of (kind_of c))
+  its-row = call-row c
 
-  length-is : length fields ≡ 4 * found.row.fields
-  length-is = length_fields (fields_of c) ∙ ap (λ (n : ℕ). 4 * n) (sym found.fields)
+  length-is : length fields ≡ 4 * its-row.row.fields
+  length-is = length_fields (fields_of c) ∙ ap (λ (n : ℕ). 4 * n) (sym its-row.fields)
 
-  body_is : found.row.body ≡ length fields + length message
+  body_is : its-row.row.body ≡ length fields + length message
   body_is =
-      let m = message-length (kind_of c) found.row found.is in
-      omega (arith, size, m, length-is, fields_fit (kind_of c) found.row found.is)
+      let m = message-length (kind_of c) its-row.row its-row.is in
+      omega (arith, size, m, length-is, fields_fit (kind_of c) its-row.row its-row.is)
 
   split : record_bytes c message ++ rest ≡ kind_of c ∷ (fields ++ (message ++ rest))
   unfolding record_bytes
   split = ap (λ (l : List ℕ). kind_of c ∷ l) (append_assoc fields message rest)
 
-  pub written-reads : read_here at (record_bytes c message ++ rest) ≡ Record c (record { at = at + length (record_bytes c message) })
+  pub written-reads : read_here at (record_bytes c message ++ rest) ≡ found c (record { at = at + length (record_bytes c message) })
   written-reads =
-      let r = found.row in
+      let r = its-row.row in
       let body = fields ++ (message ++ rest) in
-      let end : suc (at + r.body) ≡ at + length (record_bytes c message) = omega (arith, body_is, length-is, found.fields, record-length c message) in
+      let end : suc (at + r.body) ≡ at + length (record_bytes c message) = omega (arith, body_is, length-is, its-row.fields, record-length c message) in
       let enough : r.body ≤ length body = omega (arith, body_is, length-append fields (message ++ rest), length-append message rest) in
       let call : r.call (field body) ≡ c =
-      call-agrees (kind_of c) r found.is (field body) (field_at (fields_of c))
-      (λ i h. fields_read (fields_of c) (message ++ rest) i fit (omega (arith, h, found.fields)))
-      ∙ found.made
+      call-agrees (kind_of c) r its-row.is (field body) (field_at (fields_of c))
+      (λ i h. fields_read (fields_of c) (message ++ rest) i fit (omega (arith, h, its-row.fields)))
+      ∙ its-row.made
       in
       ap (read_here at) split
-      ∙ whole_here at (kind_of c) body r found.is enough
-      ∙ ap (λ (x : Call). Record x (record { at = suc (at + r.body) })) call
-      ∙ ap (λ (n : ℕ). Record c (record { at = n })) end
+      ∙ whole_here at (kind_of c) body r its-row.is enough
+      ∙ ap (λ (x : Call). found x (record { at = suc (at + r.body) })) call
+      ∙ ap (λ (n : ℕ). found c (record { at = n })) end
 
   pub message-reads : message_here (record_bytes c message ++ rest) ≡ message
   message-reads =
-      let r = found.row in
+      let r = its-row.row in
       let n : r.body - 4 * r.fields ≡ length message = omega (arith, body_is, length-is) in
       ap message_here split
-      ∙ message-here at (kind_of c) (fields ++ (message ++ rest)) r found.is
+      ∙ message-here at (kind_of c) (fields ++ (message ++ rest)) r its-row.is
       ∙ ap (take (r.body - 4 * r.fields)) (drop_at fields (message ++ rest) (4 * r.fields) length-is)
       ∙ take_at message rest (r.body - 4 * r.fields) (sym n)
 
@@ -156,7 +155,7 @@ kind-of : (at kind : ℕ) (body : List ℕ) (c : Call) (next : Cursor) → WasRe
 kind-of at kind body c next w =
     ap kind_of (sym w.made) ∙ kind-made kind w.row w.is (field body) ∙ row-kind kind w.row w.is
 
-pub read-writes : (at : ℕ) (bytes : List ℕ) (c : Call) (next : Cursor) → Bytes bytes → read_here at bytes ≡ Record c next
+pub read-writes : (at : ℕ) (bytes : List ℕ) (c : Call) (next : Cursor) → Bytes bytes → read_here at bytes ≡ found c next
     → record_bytes c (message_here bytes) ≡ take (next.at - at) bytes
 unfolding read_here record_bytes
 read-writes at [] c next all e = absurd (let z : ◌≡◌ {A = ℕ} 0 1 = cc in omega arith)
@@ -186,19 +185,19 @@ from_place area at bytes h =
     ap (drop at) (append_assoc (take at area) bytes (drop (at + length bytes) area))
     ∙ drop_at (take at area) (bytes ++ drop (at + length bytes) area) at (length-take-le at area h)
 
-module _ (area : List ℕ) (at : ℕ) (c : Call) (message after : List ℕ) (next : ℕ) (fit : FieldsFit c) (w : Writes area at c message after (Next next)) where
+module _ (area : List ℕ) (at : ℕ) (c : Call) (message after : List ℕ) (next : ℕ) (fit : FieldsFit c) (w : Writes area at c message after (Ok next)) where
   was : WasWritten area at c message after next
   was = was-written area at c message after next w
 
   from : drop at after ≡ record_bytes c message ++ drop (at + length (record_bytes c message)) area
   from = ap (drop at) was.is ∙ from_place area at (record_bytes c message) (omega (arith, was.fits))
 
-  pub write-then-read : read_record after at ≡ Record c (record { at = next })
+  pub write-then-read : read_record after at ≡ found c (record { at = next })
   unfolding read_record
   write-then-read =
       ap (read_here at) from
       ∙ written-reads at c message (drop (at + length (record_bytes c message)) area) fit was.size
-      ∙ ap (λ (n : ℕ). Record c (record { at = n })) was.end
+      ∙ ap (λ (n : ℕ). found c (record { at = n })) was.end
 
   pub write-then-message : record_message after at ≡ message
   unfolding record_message
@@ -211,7 +210,7 @@ record Lengths (at : ℕ) (bytes : List ℕ) (c : Call) (next : Cursor) : Type 0
   enough : next.at - at ≤ length bytes
   size : length (message_here bytes) ≡ message_length (kind_of c)
 
-lengths : (at : ℕ) (bytes : List ℕ) (c : Call) (next : Cursor) → read_here at bytes ≡ Record c next → Lengths at bytes c next
+lengths : (at : ℕ) (bytes : List ℕ) (c : Call) (next : Cursor) → read_here at bytes ≡ found c next → Lengths at bytes c next
 unfolding read_here
 lengths at [] c next e = absurd (let z : ◌≡◌ {A = ℕ} 0 1 = cc in omega arith)
 lengths at (kind ∷ body) c next e =
@@ -234,8 +233,8 @@ again script at n h =
     ∙ ap (λ (l : List ℕ). l ++ drop (at + n) script) (sym (take-add at n script))
     ∙ take-append-drop (at + n) script
 
-module _ (script : List ℕ) (at : ℕ) (c : Call) (next : Cursor) (all : Bytes script) (e : read_record script at ≡ Record c next) where
-  pub read-then-write : Writes script at c (record_message script at) script (Next next.at)
+module _ (script : List ℕ) (at : ℕ) (c : Call) (next : Cursor) (all : Bytes script) (e : read_record script at ≡ found c next) where
+  pub read-then-write : Writes script at c (record_message script at) script (Ok next.at)
   unfolding read_record record_message
   read-then-write =
       let bytes = drop at script in
@@ -246,4 +245,4 @@ module _ (script : List ℕ) (at : ℕ) (c : Call) (next : Cursor) (all : Bytes 
       let end : at + length (record_bytes c m) ≡ next.at = omega (arith, n, l.past) in
       let same : over script at (record_bytes c m) ≡ script = ap (over script at) b ∙ again script at (next.at - at) l.enough in
       let w = written script at c m l.size (omega (arith, n, l.past, l.enough, length-drop at script)) in
-      record { answer = ap Next (sym end) ∙ w.answer; area = sym same ∙ w.area }
+      record { answer = ap Ok (sym end) ∙ w.answer; area = sym same ∙ w.area }

@@ -8,14 +8,13 @@ use mathlib.Core.Option.{Option, none, some}
 use lib.Dec.{eqb, leb}
 use lib.IntN.{ℤ}
 use borrow.Author.Tests.{eqb-true, leb-true}
-use Rattle.model.specs.declared.kind.BodyLength.{BodyLength}
-use Rattle.model.specs.declared.kind.BodyLength.TheVariants.{Bytes, Unknown}
+use Rattle.std.specs.Prelude.{Some, None}
+use Rattle.std.specs.Prelude as code
 use Rattle.model.specs.Sizes.{message_bytes}
 use Rattle.model.specs.Lists.{count_from}
 use Rattle.model.specs.Record.{Row, kinds, lookup, row_of, body_length, kind_of, fields_of}
 use Rattle.script.specs.declared.body.Body.{Body}
-use Rattle.script.specs.declared.body.Body.TheVariants.{Parts, Unknown as NoParts}
-use Rattle.script.specs.Body.{field_at, body_parts}
+use Rattle.script.specs.Body.{field_at, split_as, body_parts}
 
 pub none-is-not-some : (r : Row) → none ≡ some r → ⊥
 none-is-not-some r e = let z : ◌≡◌ {A = ℕ} 0 1 = cc in omega arith
@@ -48,34 +47,34 @@ pub record Known (found : Option Row) (n : ℕ) : Type 0 where
   pub is : found ≡ some row
   pub body : row.body ≡ n
 
-abbrev length_of : Option Row → BodyLength
-length_of row = elim row [ none ↦ Unknown | some r ↦ Bytes r.body ]
+abbrev length_of : Option Row → code.Option ℕ
+length_of row = elim row [ none ↦ None | some r ↦ Some r.body ]
 
-known : (found : Option Row) (length : ℕ) → length_of found ≡ Bytes length → Known found length
+known : (found : Option Row) (length : ℕ) → length_of found ≡ Some length → Known found length
 known none length e = absurd (let z : ◌≡◌ {A = ℕ} 0 1 = cc in omega arith)
 known (some r) length e = record { row = r; is = refl; body = cc }
 
-unknown : (found : Option Row) → length_of found ≡ Unknown → found ≡ none
+unknown : (found : Option Row) → length_of found ≡ None → found ≡ none
 unknown none e = refl
 unknown (some r) e = absurd (let z : ◌≡◌ {A = ℕ} 0 1 = cc in omega arith)
 
-pub known-row : (kind length : ℕ) → body_length kind ≡ Bytes length → Known (row_of kind) length
+pub known-row : (kind length : ℕ) → body_length kind ≡ Some length → Known (row_of kind) length
 unfolding body_length
 known-row kind = known (row_of kind)
 
-pub unknown-row : (kind : ℕ) → body_length kind ≡ Unknown → row_of kind ≡ none
+pub unknown-row : (kind : ℕ) → body_length kind ≡ None → row_of kind ≡ none
 unfolding body_length
 unknown-row kind = unknown (row_of kind)
 
 -- the parts of a body are those of a row
-abbrev parts_of : Option Row → Body
-parts_of row = elim row [ none ↦ NoParts | some r ↦ Parts (4 * r.fields) (r.body - 4 * r.fields) ]
+abbrev parts_of : Option Row → code.Option Body
+parts_of row = elim row [ none ↦ None | some r ↦ split_as (4 * r.fields) (r.body - 4 * r.fields) ]
 
-pub no-parts : (kind : ℕ) → row_of kind ≡ none → body_parts kind ≡ NoParts
+pub no-parts : (kind : ℕ) → row_of kind ≡ none → body_parts kind ≡ None
 unfolding body_parts
 no-parts kind e = ap parts_of e
 
-pub parts : (kind : ℕ) (r : Row) → row_of kind ≡ some r → body_parts kind ≡ Parts (4 * r.fields) (r.body - 4 * r.fields)
+pub parts : (kind : ℕ) (r : Row) → row_of kind ≡ some r → body_parts kind ≡ split_as (4 * r.fields) (r.body - 4 * r.fields)
 unfolding body_parts
 parts kind r e = ap parts_of e
 
@@ -85,19 +84,21 @@ pub record KnownParts (found : Option Row) (f m : ℕ) : Type 0 where
   pub fields : 4 * row.fields ≡ f
   pub message : row.body - 4 * row.fields ≡ m
 
-known-parts : (found : Option Row) (f m : ℕ) → parts_of found ≡ Parts f m → KnownParts found f m
-known-parts none f m e = absurd (let z : ◌≡◌ {A = ℕ} 0 1 = cc in omega arith)
-known-parts (some r) f m e = record { row = r; is = refl; fields = cc; message = cc }
+known-parts : (found : Option Row) (b : Body) → parts_of found ≡ Some b → KnownParts found b.fields b.message
+known-parts none b e = absurd (let z : ◌≡◌ {A = ℕ} 0 1 = cc in omega arith)
+known-parts (some r) b e =
+    let same : ◌≡◌ {A = Body} (record { fields = 4 * r.fields; message = r.body - 4 * r.fields }) b = cc in
+    record { row = r; is = refl; fields = ap (λ (x : Body). x.fields) same; message = ap (λ (x : Body). x.message) same }
 
-unknown-parts : (found : Option Row) → parts_of found ≡ NoParts → found ≡ none
+unknown-parts : (found : Option Row) → parts_of found ≡ None → found ≡ none
 unknown-parts none e = refl
 unknown-parts (some r) e = absurd (let z : ◌≡◌ {A = ℕ} 0 1 = cc in omega arith)
 
-pub row-of-parts : (kind f m : ℕ) → body_parts kind ≡ Parts f m → KnownParts (row_of kind) f m
+pub row-of-parts : (kind : ℕ) (b : Body) → body_parts kind ≡ Some b → KnownParts (row_of kind) b.fields b.message
 unfolding body_parts
 row-of-parts kind = known-parts (row_of kind)
 
-pub row-of-no-parts : (kind : ℕ) → body_parts kind ≡ NoParts → row_of kind ≡ none
+pub row-of-no-parts : (kind : ℕ) → body_parts kind ≡ None → row_of kind ≡ none
 unfolding body_parts
 row-of-no-parts kind = unknown-parts (row_of kind)
 

@@ -14,13 +14,15 @@ use Rattle.model.specs.declared.call.Call.TheVariants.{CreTsk, DelTsk, StaTsk, E
 use Rattle.model.specs.Lists.{joined}
 use Rattle.model.specs.Code.{code_bytes}
 use Rattle.model.specs.Record.{Row, kinds, row_of, kind_of, fields_of, record_bytes}
-use Rattle.script.specs.declared.writer.Wrote.{Wrote}
-use Rattle.script.specs.declared.writer.Wrote.TheVariants.{Next, NoRoom, WrongMessage}
+use Rattle.std.specs.Prelude.{Some, None, Result, Ok, Err}
+use Rattle.script.specs.declared.writer.WriteError.{WriteError}
+use Rattle.script.specs.declared.writer.WriteError.TheVariants.{NoRoom, WrongMessage}
 use Rattle.script.specs.Place.{room, Appends}
 use Rattle.model.specs.Message.{over}
-use Rattle.script.specs.Body.{field_at}
+use Rattle.script.specs.declared.body.Body.{Body}
+use Rattle.script.specs.Body.{field_at, body_parts}
 use Rattle.script.specs.Write.{message_length, wrote, rewritten, Writes, call_head, head_bytes}
-use Rattle.script.proofs.Rows.{KnownParts, fields-few}
+use Rattle.script.proofs.Rows.{none-is-not-some, KnownParts, row-of-parts, row-of-no-parts, fields-few}
 use Rattle.script.proofs.Appending.{placed-room, next-room}
 
 -- every call has a row, which counts its fields and makes the call of them
@@ -103,39 +105,39 @@ module _ (area : List ℕ) (at : ℕ) (c : Call) (message : List ℕ) where
   abbrev n : ℕ
   n = length (record_bytes c message)
 
-  abbrev sized : Bool → Wrote
-  sized right = elim right [ true ↦ cond (room (length area) at n) (Next (at + n)) NoRoom | false ↦ WrongMessage ]
+  abbrev sized : Bool → Result ℕ WriteError
+  sized right = elim right [ true ↦ cond (room (length area) at n) (Ok (at + n)) (Err NoRoom) | false ↦ Err WrongMessage ]
 
-  abbrev after : Wrote → List ℕ
-  after r = elim r [ Next n ↦ over area at (record_bytes c message) | NoRoom ↦ area | WrongMessage ↦ area ]
+  abbrev after : Result ℕ WriteError → List ℕ
+  after r = elim r [ Ok n ↦ over area at (record_bytes c message) | Err e ↦ area ]
 
-  answered : (r : Wrote) → wrote area at c message ≡ r → Writes area at c message (after r) r
+  answered : (r : Result ℕ WriteError) → wrote area at c message ≡ r → Writes area at c message (after r) r
   unfolding rewritten
   answered r e = record { answer = sym e; area = ap after (sym e) }
 
-  pub wrong : (length message ≡ message_length (kind_of c) → ⊥) → Writes area at c message area WrongMessage
+  pub wrong : (length message ≡ message_length (kind_of c) → ⊥) → Writes area at c message area (Err WrongMessage)
   unfolding wrote
-  wrong h = answered WrongMessage (ap sized (ne_eqb (length message) (message_length (kind_of c)) h))
+  wrong h = answered (Err WrongMessage) (ap sized (ne_eqb (length message) (message_length (kind_of c)) h))
 
   module _ (e : length message ≡ message_length (kind_of c)) where
-    by-room : (has : Bool) → room (length area) at n ≡ has → wrote area at c message ≡ cond has (Next (at + n)) NoRoom
+    by-room : (has : Bool) → room (length area) at n ≡ has → wrote area at c message ≡ cond has (Ok (at + n)) (Err NoRoom)
     unfolding wrote
     by-room has p =
-        ap sized (eq-eqb (length message) (message_length (kind_of c)) e) ∙ ap (λ (b : Bool). cond b (Next (at + n)) NoRoom) p
+        ap sized (eq-eqb (length message) (message_length (kind_of c)) e) ∙ ap (λ (b : Bool). cond b (Ok (at + n)) (Err NoRoom)) p
 
-    pub no_room : length area < at + n → Writes area at c message area NoRoom
-    no_room h = answered NoRoom (by-room false (lt-leb (at + n) (length area) h))
+    pub no_room : length area < at + n → Writes area at c message area (Err NoRoom)
+    no_room h = answered (Err NoRoom) (by-room false (lt-leb (at + n) (length area) h))
 
-    pub written : at + n ≤ length area → Writes area at c message (over area at (record_bytes c message)) (Next (at + n))
-    written h = answered (Next (at + n)) (by-room true (le-leb (at + n) (length area) h))
+    pub written : at + n ≤ length area → Writes area at c message (over area at (record_bytes c message)) (Ok (at + n))
+    written h = answered (Ok (at + n)) (by-room true (le-leb (at + n) (length area) h))
 
     -- what an append of the whole record leaves
     pub appended : (after : List ℕ) (next : ℕ) → at + n ≤ length area → Appends area at (record_bytes c message) after next
-        → Writes area at c message after (Next next)
+        → Writes area at c message after (Ok next)
     appended after next h p =
         let w = written h in
         record {
-          answer = ap Next (p.place ∙ next-room area at (record_bytes c message) h) ∙ w.answer;
+          answer = ap Ok (p.place ∙ next-room area at (record_bytes c message) h) ∙ w.answer;
           area = p.area ∙ placed-room area at (record_bytes c message) h ∙ w.area;
         }
 
@@ -151,17 +153,17 @@ module _ (area : List ℕ) (at : ℕ) (c : Call) (message after' : List ℕ) (ne
   n' = length (record_bytes c message)
 
   roomy : (has : Bool) → room (length area) at n' ≡ has → length message ≡ message_length (kind_of c)
-      → Next next ≡ cond has (Next (at + n')) NoRoom → WasWritten area at c message after' next
+      → Ok next ≡ cond has (Ok (at + n')) (Err NoRoom) → WasWritten area at c message after' next
   roomy true h size e = record { size = size; fits = leb-true (at + n') (length area) h; end = cc; is = is }
   roomy false h size e = absurd (let z : ◌≡◌ {A = ℕ} 0 1 = cc in omega arith)
 
-  right-size : (right : Bool) → eqb (length message) (message_length (kind_of c)) ≡ right → Next next ≡ sized area at c message right
+  right-size : (right : Bool) → eqb (length message) (message_length (kind_of c)) ≡ right → Ok next ≡ sized area at c message right
       → WasWritten area at c message after' next
   right-size true h e = roomy (room (length area) at n') refl (eqb-true (length message) (message_length (kind_of c)) h) e
   right-size false h e = absurd (let z : ◌≡◌ {A = ℕ} 0 1 = cc in omega arith)
 
 pub was-written : (area : List ℕ) (at : ℕ) (c : Call) (message after' : List ℕ) (next : ℕ)
-    → Writes area at c message after' (Next next) → WasWritten area at c message after' next
+    → Writes area at c message after' (Ok next) → WasWritten area at c message after' next
 unfolding wrote rewritten
 was-written area at c message after' next w =
     right-size area at c message after' next (w.area ∙ ap (after area at c message) (sym w.answer)) _ refl w.answer
@@ -169,13 +171,33 @@ was-written area at c message after' next w =
 some_inj : {r x : Row} → ◌≡◌ {A = Option Row} (some r) (some x) → r ≡ x
 some_inj e = cc
 
+-- every call's kind is in the table
+pub in-table : (c : Call) → body_parts (kind_of c) ≡ None → ⊥
+in-table c e = let r = call-row c in none-is-not-some r.row (sym (row-of-no-parts _ e) ∙ r.is)
+
 -- the parts of a call's body, in terms of the call
-module _ (c : Call) (f m : ℕ) (parts : KnownParts (row_of (kind_of c)) f m) where
-  pub fields-of-call : f ≡ 4 * length (fields_of c)
+module _ (c : Call) (b : Body) (known : body_parts (kind_of c) ≡ Some b) where
+  parts : KnownParts (row_of (kind_of c)) b.fields b.message
+  parts = row-of-parts (kind_of c) b known
+
+  fields-of-call : b.fields ≡ 4 * length (fields_of c)
   fields-of-call =
       let r = call-row c in
       let e : parts.row ≡ r.row = some_inj (sym parts.is ∙ r.is) in
       sym parts.fields ∙ ap (λ (x : Row). 4 * x.fields) e ∙ ap (λ (x : ℕ). 4 * x) r.fields
 
-  pub message-of-call : m ≡ message_length (kind_of c)
+  pub fields-short : b.fields ≤ 12
+  fields-short = omega (arith, fields-of-call, few c)
+
+  pub message-of-call : b.message ≡ message_length (kind_of c)
   message-of-call = sym (message-length (kind_of c) parts.row parts.is ∙ parts.message)
+
+  -- the record is as many bytes of the head as its fields have, and the message
+  pub parts-length : (message : List ℕ) → 1 + b.fields + length message ≡ length (record_bytes c message)
+  parts-length message = omega (arith, fields-of-call, record-length c message)
+
+  pub parts-bytes : (message : List ℕ) → take (1 + b.fields) (head_bytes (call_head c)) ++ message ≡ record_bytes c message
+  unfolding record_bytes
+  parts-bytes message =
+      ap (λ (bytes : List ℕ). bytes ++ message)
+      (ap (λ (n : ℕ). take (1 + n) (head_bytes (call_head c))) fields-of-call ∙ head-begins c)

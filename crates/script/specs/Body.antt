@@ -1,15 +1,18 @@
 -- The table of kinds as the reader and the writer use it.
-use Rattle.std.specs.Prelude.{ℕ, ◌*◌, ◌-◌, List, get_or, drop, ℤ, pos}
+use Rattle.std.specs.Prelude.{ℕ, ◌*◌, ◌-◌, List, get_or, drop, ℤ, pos, Some, None}
+use Rattle.std.specs.Prelude as code
 use Rattle.std.proofs.Math.Option.{Option, none, some}
 use Rattle.model.specs.declared.call.Call.{Call}
 use Rattle.model.specs.declared.call.Call.TheVariants.{Tick}
 use Rattle.script.specs.declared.body.Body.{Body}
-use Rattle.script.specs.declared.body.Body.TheVariants.{Parts, Unknown}
 use Rattle.model.specs.Record.{Row, kinds, lookup, row_of}
 
 -- the parts of a kind's body: the bytes of its fields, and those of its message
-unfoldable pub body_parts : ℕ → Body
-body_parts kind = elim (row_of kind) [ none ↦ Unknown | some r ↦ Parts (4 * r.fields) (r.body - 4 * r.fields) ]
+abbrev pub split_as : ℕ → ℕ → code.Option Body
+split_as fields message = Some (record { fields = fields; message = message })
+
+unfoldable pub body_parts : ℕ → code.Option Body
+body_parts kind = elim (row_of kind) [ none ↦ None | some r ↦ split_as (4 * r.fields) (r.body - 4 * r.fields) ]
 
 -- fields by their numbers, 0 beyond the last
 abbrev pub field_at : List ℤ → ℕ → ℤ

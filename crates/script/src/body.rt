@@ -2,32 +2,25 @@
 ghost use Rattle.std.specs.Prelude.{◌≡◌};
 ghost use Rattle.script.specs.Body.{body_parts};
 
-use model::kind::{BodyLength, SND_MBF, body_length};
+use model::kind::{SND_MBF, body_length};
 use model::sizes::MESSAGE_BYTES;
 
 // How many bytes of a body are fields, and how many are the message.
 #[derive(Clone, Copy)]
-pub enum Body {
-    Parts { fields: usize, message: usize },
-    Unknown,
+pub struct Body {
+    pub fields: usize,
+    pub message: usize,
 }
 
-pub fn body_parts(kind: u8) -> Body
+// None where no record has the kind.
+pub fn body_parts(kind: u8) -> Option<Body>
     ensures { result ≡ body_parts kind }
 {
-    let BodyLength::Bytes(length) = body_length(kind) else {
-        return Body::Unknown;
-    };
+    let length = body_length(kind)?;
     // the one kind that carries a message
-    if kind == SND_MBF {
-        Body::Parts {
-            fields: length - MESSAGE_BYTES,
-            message: MESSAGE_BYTES,
-        }
-    } else {
-        Body::Parts {
-            fields: length,
-            message: 0,
-        }
-    }
+    let message = if kind == SND_MBF { MESSAGE_BYTES } else { 0 };
+    Some(Body {
+        fields: length - message,
+        message,
+    })
 }

@@ -13,7 +13,7 @@ use super::field::{field_bytes, number_bytes};
 use super::place::{part, put, put_two};
 use model::call::Answer;
 use model::item;
-use model::number::TaskNumber;
+use model::number::{TaskNumber, task_byte};
 use model::sizes::MESSAGE_BYTES;
 
 // What the call is answered with.
@@ -66,7 +66,7 @@ pub fn log_block(area: &mut [u8], at: usize, task: TaskNumber, block: u32) -> us
 pub fn log_runs(area: &mut [u8], at: usize, task: Option<TaskNumber>) -> usize
     ensures { Appends area.old at (runs_bytes (task_word task)) area.new result }
 {
-    put(area, at, &[item::RUNS, task.byte()])
+    put(area, at, &[item::RUNS, task_byte(task)])
 }
 
 // A script that stops at an offset.

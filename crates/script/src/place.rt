@@ -6,22 +6,16 @@ ghost use Rattle.script.specs.Place;
 pub fn part(s: &[u8], at: usize, n: usize) -> &[u8]
     ensures { result.now ≡ take n (drop at s.now) }
 {
-    let size = s.len();
-    if size <= at {
-        return &s[size..];
-    }
-    if size - at < n {
-        return &s[at..];
-    }
-    let end = at + n;
-    &s[at..end]
+    let start = at.min(s.len());
+    let end = start + n.min(s.len() - start);
+    &s[start..end]
 }
 
 // There is room for n bytes from a place on.
 pub fn room(size: usize, at: usize, n: usize) -> bool
     ensures { result ≡ Place.room size at n }
 {
-    if size < n { false } else { at <= size - n }
+    n <= size && at <= size - n
 }
 
 // The bytes at a place, where there is room for all of them; the answer is the place after them.
@@ -31,12 +25,9 @@ pub fn put(area: &mut [u8], at: usize, bytes: &[u8]) -> usize
     if !room(area.len(), at, bytes.len()) {
         return at;
     }
-    let mut i = 0;
-    while i < bytes.len() {
-        area[at + i] = bytes[i];
-        i += 1;
-    }
-    at + i
+    let end = at + bytes.len();
+    area[at..end].copy_from_slice(bytes);
+    end
 }
 
 // Two runs of bytes as one: where there is no room for both, neither is written.

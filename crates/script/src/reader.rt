@@ -3,54 +3,49 @@ ghost use Rattle.std.specs.Prelude.{◌≡◌, [], ◌∷◌};
 ghost use Rattle.model.specs.Record.{kinds, read_record, record_message};
 ghost use Rattle.script.specs.Body.{call_in, from_mutexes, from_buffers, from_pools};
 
-use super::body::{Body, body_parts};
+use super::body::body_parts;
 use super::field::field;
 use super::place::part;
-use model::call::{Call, Cursor, Read};
+use model::call::{Call, Cursor, Record, Stop};
 use model::kind::{
-    BodyLength, CHG_PRI, CRE_MBF, CRE_MPF, CRE_MTX, CRE_TSK, DEL_MBF, DEL_MPF, DEL_MTX, DEL_TSK,
-    EXT_TSK, GET_MPF, LOC_MTX, RCV_MBF, REL_MPF, SND_MBF, STA_TSK, TER_TSK, UNL_MTX, body_length,
+    CHG_PRI, CRE_MBF, CRE_MPF, CRE_MTX, CRE_TSK, DEL_MBF, DEL_MPF, DEL_MTX, DEL_TSK, EXT_TSK,
+    GET_MPF, LOC_MTX, RCV_MBF, REL_MPF, SND_MBF, STA_TSK, TER_TSK, UNL_MTX, body_length,
 };
 
 // The record at a cursor: the call, and the place after the record. Where its kind is unknown or its body is cut, or where no byte
 // is left, the script stops.
-pub fn read_record(script: &[u8], c: Cursor) -> Read
+pub fn read_record(script: &[u8], c: Cursor) -> Result<Record, Stop>
     ensures { result ≡ read_record script.now c.at }
 {
     let at = c.at;
-    if script.len() <= at {
-        return Read::Stop { offset: at };
-    }
-    let kind = script[at];
-    let BodyLength::Bytes(length) = body_length(kind) else {
-        return Read::Stop { offset: at };
-    };
+    let stop = Stop { offset: at };
+    let kind = *script.get(at).ok_or(stop)?;
+    let length = body_length(kind).ok_or(stop)?;
     let start = at + 1;
     if script.len() - start < length {
-        return Read::Stop { offset: at };
+        return Err(stop);
     }
     let end = start + length;
     // a field that the body does not have reads as 0, and the kind's call has no use for it
     let body = &script[start..end];
     let call = call_of(kind, field(body, 0), field(body, 1), field(body, 2));
-    Read::Record {
+    Ok(Record {
         call,
         next: Cursor { at: end },
-    }
+    })
 }
 
 // The message of the record at a cursor, as it lies in the script: empty where it has none.
 pub fn message<'a>(script: &'a [u8], c: Cursor) -> &'a [u8]
     ensures { result.now ≡ record_message script.now c.at }
 {
-    let at = c.at;
-    if script.len() <= at {
-        return part(script, at, 0);
-    }
-    let Body::Parts { fields, message } = body_parts(script[at]) else {
-        return part(script, at, 0);
+    let Some(&kind) = script.get(c.at) else {
+        return &[];
     };
-    part(script, at + 1 + fields, message)
+    let Some(body) = body_parts(kind) else {
+        return &[];
+    };
+    part(script, c.at + 1 + body.fields, body.message)
 }
 
 // A call by its kind and fields, of which it takes as many as it has; tick where no record has the kind. Here those of tasks, the others below.

@@ -2,7 +2,7 @@
 ghost use Rattle.std.specs.Prelude.{◌≡◌};
 ghost use Rattle.script.specs.Write.{call_head, head_bytes, Writes};
 
-use super::body::{Body, body_parts};
+use super::body::body_parts;
 use super::field::field_bytes;
 use super::place::{put_two, room};
 use model::call::Call;
@@ -11,36 +11,35 @@ use model::kind::{
     GET_MPF, LOC_MTX, RCV_MBF, REL_MPF, SND_MBF, STA_TSK, TER_TSK, TICK, UNL_MTX,
 };
 
-// What became of a record: written, with the place after it, or refused with nothing written.
+// Why a record is refused. Nothing is written then.
 #[derive(Clone, Copy)]
-pub enum Wrote {
-    Next(usize),
+pub enum WriteError {
     NoRoom,
     // the message is not as long as the kind has it
     WrongMessage,
 }
 
-pub fn write_record(area: &mut [u8], at: usize, call: Call, message: &[u8]) -> Wrote
+// The place after the record.
+pub fn write_record(
+    area: &mut [u8],
+    at: usize,
+    call: Call,
+    message: &[u8],
+) -> Result<usize, WriteError>
     ensures { Writes area.old at call message.now area.new result }
 {
     let head = call_head(call);
     // every call's kind is in the table
-    let Body::Parts {
-        fields,
-        message: size,
-    } = body_parts(head.0)
-    else {
-        return Wrote::WrongMessage;
-    };
-    if message.len() != size {
-        return Wrote::WrongMessage;
+    let body = body_parts(head.0).ok_or(WriteError::WrongMessage)?;
+    if message.len() != body.message {
+        return Err(WriteError::WrongMessage);
     }
-    let length = 1 + fields;
+    let length = 1 + body.fields;
     if !room(area.len(), at, length + message.len()) {
-        return Wrote::NoRoom;
+        return Err(WriteError::NoRoom);
     }
     let bytes = head_bytes(head);
-    Wrote::Next(put_two(area, at, &bytes[..length], message))
+    Ok(put_two(area, at, &bytes[..length], message))
 }
 
 // A call's kind and fields, 0 for each field fewer than three.

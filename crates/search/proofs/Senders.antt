@@ -1,4 +1,5 @@
 -- The first sender of a buffer, if its message fits, as the code finds it. Assumes nothing.
+use Rattle.std.specs.Prelude.{None, Option, Some}
 use Prim.Native.Nat.{ℕ}
 use mathlib.Core.Path.{◌≡◌, ◌∙◌, refl, sym}
 use mathlib.Core.Logic.{◌≢◌}
@@ -8,10 +9,7 @@ use lib.Signed.{lt_z}
 use borrow.Author.Tests.{ne_eqb}
 use Rattle.model.specs.Lists.{◌!◌}
 use Rattle.model.specs.Code.{saturated}
-use Rattle.model.specs.Number.{maybe_task}
-use Rattle.model.specs.declared.number.TaskNumber.{TaskNumber}
-use Rattle.model.specs.declared.number.MaybeTask.{MaybeTask}
-use Rattle.model.specs.declared.number.MaybeTask.TheVariants.{Task, Nothing as NoTask}
+use Rattle.model.specs.Number.{maybe_task, TaskNumber}
 use Rattle.model.specs.Facts.{queue, sending}
 use Rattle.model.specs.Kernel.{Kernel}
 use Rattle.model.specs.Message.{room}
@@ -23,12 +21,12 @@ use Rattle.message.proofs.RoomLaws.{lacks-asked}
 abbrev first_of : Kernel → ℕ → ℕ
 first_of k b = cond (first_fits k b) (queue_front k (queue sending b)) 0
 
-module _ (k : Kernel) (b : ℕ) {c : ℕ} {f : MaybeTask} (c-is : c ≡ b) (f-is : f ≡ maybe_task (queue_front k (queue sending c))) where
-  pub finds-nobody : f ≡ NoTask → NoTask ≡ maybe_task (first_of k b)
+module _ (k : Kernel) (b : ℕ) {c : ℕ} {f : Option TaskNumber} (c-is : c ≡ b) (f-is : f ≡ maybe_task (queue_front k (queue sending c))) where
+  pub finds-nobody : f ≡ None → None ≡ maybe_task (first_of k b)
   unfolding first_fits
   finds-nobody e = let z : queue_front k (queue sending b) ≡ 0 = rw c-is at (task-is-none _ (sym f-is ∙ e)) in sym (task-zero _ (rw z))
 
-  module _ {t : TaskNumber} (e : f ≡ Task t) {used bufsz n : ℕ} {r y : ℤ} (used-is : used ≡ k.buffers.used ! b) (bufsz-is : bufsz ≡ k.buffers.bufsz ! b)
+  module _ {t : TaskNumber} (e : f ≡ Some t) {used bufsz n : ℕ} {r y : ℤ} (used-is : used ≡ k.buffers.used ! b) (bufsz-is : bufsz ≡ k.buffers.bufsz ! b)
       (n-is : n ≡ k.tasks.argument ! t.0) (r-is : r ≡ saturated (room bufsz used n)) (y-is : y ≡ r) where
     decides : first_fits k b ≡ not (lt_z y (pos 0))
     unfolding first_fits
@@ -36,21 +34,21 @@ module _ (k : Kernel) (b : ℕ) {c : ℕ} {f : MaybeTask} (c-is : c ≡ b) (f-is
         let named = rw c-is at (task-is _ _ (sym f-is ∙ e)) in
         rw (ne_eqb (queue_front k (queue sending b)) 0 named.1, ← named.0, ← n-is) (lacks-asked k b n bufsz-is used-is r-is y-is)
 
-    pub finds-none : lt_z y (pos 0) ≡ true → NoTask ≡ maybe_task (first_of k b)
+    pub finds-none : lt_z y (pos 0) ≡ true → None ≡ maybe_task (first_of k b)
     finds-none h = sym (task-zero _ (rw (decides, h)))
 
-    pub finds-first : lt_z y (pos 0) ≡ false → Task t ≡ maybe_task (first_of k b)
+    pub finds-first : lt_z y (pos 0) ≡ false → Some t ≡ maybe_task (first_of k b)
     finds-first h = sym e ∙ rw (decides, h) (rw c-is at f-is)
 
-module _ (k : Kernel) (b : ℕ) {f : MaybeTask} (f-is : f ≡ maybe_task (first_of k b)) where
-  pub first-none : f ≡ NoTask → first_fits k b ≡ false
+module _ (k : Kernel) (b : ℕ) {f : Option TaskNumber} (f-is : f ≡ maybe_task (first_of k b)) where
+  pub first-none : f ≡ None → first_fits k b ≡ false
   first-none e = go (first_fits k b) refl (task-is-none _ (sym f-is ∙ e))
     where
       go : (r : Bool) → first_fits k b ≡ r → cond r (queue_front k (queue sending b)) 0 ≡ 0 → r ≡ false
       go true y z = sym y ∙ (unfold first_fits in rw z)
       go false y z = refl
 
-  pub first_some : {t : TaskNumber} → f ≡ Task t → (first_fits k b ≡ true) × (t.0 ≡ queue_front k (queue sending b))
+  pub first_some : {t : TaskNumber} → f ≡ Some t → (first_fits k b ≡ true) × (t.0 ≡ queue_front k (queue sending b))
   first_some {t} e = go (first_fits k b) refl (task-is _ _ (sym f-is ∙ e))
     where
       go : (r : Bool) → first_fits k b ≡ r → (t.0 ≡ cond r (queue_front k (queue sending b)) 0) × (cond r (queue_front k (queue sending b)) 0 ≢ 0)

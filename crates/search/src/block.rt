@@ -3,8 +3,8 @@ ghost use Rattle.std.specs.Prelude.{◌≡◌, length};
 ghost use Rattle.model.specs.Refusal.{free_block, handed_out};
 ghost use Rattle.model.specs.Words.{word_count, kernel};
 
-use state::layout::Words;
 use model::number::{PoolNumber, natural};
+use state::layout::Words;
 
 // "the smallest free block, counted from 1", 0 if there is none. A state may say any count; the flags end, and beyond them a block reads as
 // free.

@@ -5,11 +5,10 @@ ghost use Rattle.model.specs.Lists.{any, up_to};
 ghost use Rattle.model.specs.Refusal.{above_ceiling};
 ghost use Rattle.model.specs.Words.{word_count, kernel};
 
-use state::layout::Words;
 use model::attribute::CEILINGED;
 use model::number::{MutexNumber, TaskNumber};
-use model::sizes::MUTEXES;
 use queue::front::stands_in;
+use state::layout::Words;
 use state::task::LOCKING;
 
 // The sentence of one mutex; above is more urgent, a lesser number.
@@ -24,18 +23,9 @@ fn above_ceiling(state: &Words, base: u32, t: TaskNumber, m: MutexNumber) -> boo
     (attribute == CEILINGED) & ((holder == n) | waits) & (base < top)
 }
 
-// The same of every mutex. Each number of the loop names one, so no answer is given for want of one.
+// The same of any mutex.
 pub fn above_any_ceiling(state: &Words, base: u32, t: TaskNumber) -> bool
     ensures { result ≡ any (above_ceiling (kernel state.now) base t.0) (up_to mutexes) }
 {
-    for n in 1..=MUTEXES {
-        let found = MutexNumber::from_word(n);
-        let Some(m) = found else {
-            return false;
-        };
-        if above_ceiling(state, base, t, m) {
-            return true;
-        }
-    }
-    false
+    MutexNumber::any(move |m| above_ceiling(state, base, t, m))
 }

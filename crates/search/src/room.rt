@@ -5,9 +5,9 @@ ghost use Rattle.model.specs.Lists.{◌!◌};
 ghost use Rattle.model.specs.Refusal.{pool_sum};
 ghost use Rattle.model.specs.Words.{word_count, kernel};
 
-use state::layout::Words;
 use model::number::PoolNumber;
 use model::sizes::{POOL_BYTES, POOLS};
+use state::layout::Words;
 
 // A pool's bytes; any two words have a product.
 fn bytes(state: &Words, p: PoolNumber) -> usize

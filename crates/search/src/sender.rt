@@ -8,11 +8,10 @@ ghost use Rattle.model.specs.World.{queue_front};
 ghost use Rattle.model.specs.Act.{first_fits};
 ghost use Rattle.model.specs.Words.{word_count, kernel};
 
-use state::layout::Words;
 use message::room::room;
 use model::number::{BufferNumber, TaskNumber};
-use model::sizes::TASKS;
 use queue::front::front;
+use state::layout::Words;
 use state::task::SENDING;
 
 fn sends(state: &Words, t: TaskNumber) -> bool
@@ -21,20 +20,11 @@ fn sends(state: &Words, t: TaskNumber) -> bool
     state::task::place(state, t) == SENDING
 }
 
-// Whether any task waits to send. Each number of the loop names a task, so no answer is given for want of one.
+// Whether any task waits to send.
 pub fn anyone_sends(state: &Words) -> bool
     ensures { result ≡ any (λ t. eqb ((kernel state.now).tasks.place ! t) sending) (up_to tasks) }
 {
-    for n in 1..=TASKS {
-        let found = TaskNumber::from_word(n);
-        let Some(t) = found else {
-            return false;
-        };
-        if sends(state, t) {
-            return true;
-        }
-    }
-    false
+    TaskNumber::any(|t| sends(state, t))
 }
 
 // The first sender of a buffer, if its message fits.

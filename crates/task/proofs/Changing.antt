@@ -1,9 +1,7 @@
 -- chg_pri, in the order of the code's steps.
+use Rattle.std.specs.Prelude.{None, Option, Some}
 use Rattle.model.proofs.Terms.{ℕ, zero, suc, ◌≤◌, arith, ◌≡◌, ◌∙◌, refl, sym, ap, ◌≢◌, Bool, true, false, cond, none, List, [], ◌∷◌, length, ℤ, pos, eqb, eq-eqb, ne_eqb, tasks, priorities, mutexes, ◌!◌, up_to, any, E_OK, E_PAR, E_ID, E_ILUSE, E_NOEXS, number, absent, with_base, Kernel, running, recompute, Nothing, chosen_task, chosen_base, above_ceiling, chg_pri_refusals, Refusal, refuse, first_refusal, outside, rejoin, chg_pri, From, kernel, word_count, answer_bytes}
-use Rattle.model.specs.Number.{word_number, maybe_task}
-use Rattle.model.specs.declared.number.TaskNumber.{TaskNumber}
-use Rattle.model.specs.declared.number.MaybeTask.{MaybeTask}
-use Rattle.model.specs.declared.number.MaybeTask.TheVariants.{Task, Nothing as NoTask}
+use Rattle.model.specs.Number.{word_number, maybe_task, TaskNumber}
 use Rattle.model.specs.declared.call.Answer.TheVariants.{Code}
 use Rattle.model.proofs.NumberLaws.{task_kind, named, never-unnamed}
 use Rattle.model.proofs.RefusalLaws.{none-applies, in-range-from-zero}
@@ -23,12 +21,12 @@ module _ (k : Kernel) (field : ℤ) {b : ℤ} (b-is : b ≡ field) {n : ℕ} (n-
   is_number : n ≡ number field
   is_number = n-is ∙ ap number b-is
 
-  pub task-caller : {u caller : ℕ} {found : MaybeTask} → n ≡ 0 → u ≡ caller → caller ≡ running k → found ≡ maybe_task (word_number u tasks)
+  pub task-caller : {u caller : ℕ} {found : Option TaskNumber} → n ≡ 0 → u ≡ caller → caller ≡ running k → found ≡ maybe_task (word_number u tasks)
       → found ≡ maybe_task (word_number (chosen_task k field) tasks)
   unfolding chosen_task
   task-caller z u-is runs e = e ∙ rw (eq-eqb (number field) 0 (sym is_number ∙ z), ← runs, ← u-is)
 
-  pub task-other : {found : MaybeTask} → n ≢ 0 → found ≡ maybe_task (word_number n tasks) → found ≡ maybe_task (word_number (chosen_task k field) tasks)
+  pub task-other : {found : Option TaskNumber} → n ≢ 0 → found ≡ maybe_task (word_number n tasks) → found ≡ maybe_task (word_number (chosen_task k field) tasks)
   unfolding chosen_task
   task-other z e = e ∙ rw (ne_eqb (number field) 0 (λ q. z (is_number ∙ q)), ← is_number)
 
@@ -50,11 +48,11 @@ module _ (k : Kernel) (task : ℤ) (runs : running k ≢ 0) where
       go zero h = let s = running-stood k runs in (s.low, s.high)
       go (suc n) h = rw (ne_eqb (suc n) 0 (λ z. absurd (omega arith))) (omega arith, h)
 
-  module _ {found : MaybeTask} (found-is : found ≡ maybe_task (word_number (chosen_task k task) tasks)) where
-    pub chosen-some : outside (pos 0) (pos tasks) task ≡ false → found ≡ NoTask → ⊥
+  module _ {found : Option TaskNumber} (found-is : found ≡ maybe_task (word_number (chosen_task k task) tasks)) where
+    pub chosen-some : outside (pos 0) (pos tasks) task ≡ false → found ≡ None → ⊥
     chosen-some inside e = let r = chosen-from inside in never-unnamed task_kind found-is r.0 r.1 e
 
-    pub change-named : (priority : ℤ) → first_refusal (chg_pri_refusals k task priority) ≡ none → found ≡ NoTask → ⊥
+    pub change-named : (priority : ℤ) → first_refusal (chg_pri_refusals k task priority) ≡ none → found ≡ None → ⊥
     unfolding chg_pri_refusals
     change-named priority e g = chosen-some (none-applies (chg_pri_refusals k task priority) e 1) g
 
@@ -88,16 +86,16 @@ module _ (k : Kernel) (task priority : ℤ) where
         later : {v : Verdict} → v ≡ verdict (first_refusal (missing ∷ above ∷ [])) → v ≡ verdict (first_refusal (chg_pri_refusals k task priority))
         later f = after-range (refused-later numberless (missing ∷ above ∷ []) (rw a-is at (sym q-is ∙ numbered)) f)
 
-        module _ {found : MaybeTask} (from : found ≡ maybe_task (word_number (chosen_task k a) tasks)) where
+        module _ {found : Option TaskNumber} (from : found ≡ maybe_task (word_number (chosen_task k a) tasks)) where
           made : found ≡ maybe_task (word_number (chosen_task k task) tasks)
           made = rw a-is at from
 
-          pub change-never : {v : Verdict} {caller : ℕ} → caller ≡ running k → 1 ≤ caller → found ≡ NoTask
+          pub change-never : {v : Verdict} {caller : ℕ} → caller ≡ running k → 1 ≤ caller → found ≡ None
               → v ≡ verdict (first_refusal (chg_pri_refusals k task priority))
           change-never runs low e =
               absurd (chosen-some k task (λ z. let n = runs ∙ z in omega arith) made (rw a-is at (sym q-is ∙ numbered)) e)
 
-          module _ {t : TaskNumber} (some : found ≡ Task t) {x : ℕ} (x-is : x ≡ k.tasks.place ! t.0) where
+          module _ {t : TaskNumber} (some : found ≡ Some t) {x : ℕ} (x-is : x ≡ k.tasks.place ! t.0) where
             is-task : chosen_task k task ≡ t.0
             is-task = sym (named task_kind made some).0
 
@@ -126,8 +124,8 @@ pub base-changed : (t base : ℕ) (s : List ℕ) {s1 s2 s' : List ℕ} → Repre
     → Represents s' (rejoin (kernel s2) t) → Represents s' (rejoin (recompute (with_base (kernel s) t base)) t)
 base-changed t base s a b c = record { length = c.length; kernel = c.kernel ∙ rw (b.kernel, a.kernel) }
 
-pub changes : (caller : ℕ) (task priority : ℤ) {s s' log l1 : List ℕ} {at next : ℕ} → length s ≡ word_count → {found : MaybeTask} {t : TaskNumber} {base : ℕ}
-    → found ≡ maybe_task (word_number (chosen_task (kernel s) task) tasks) → found ≡ Task t → base ≡ chosen_base (kernel s) t.0 priority
+pub changes : (caller : ℕ) (task priority : ℤ) {s s' log l1 : List ℕ} {at next : ℕ} → length s ≡ word_count → {found : Option TaskNumber} {t : TaskNumber} {base : ℕ}
+    → found ≡ maybe_task (word_number (chosen_task (kernel s) task) tasks) → found ≡ Some t → base ≡ chosen_base (kernel s) t.0 priority
     → Represents s' (rejoin (recompute (with_base (kernel s) t.0 base)) t.0) → Appends log at (answer_bytes (Code E_OK)) l1 next
     → CarriesInWords caller (λ w. chg_pri w (chosen_task w.kernel task) priority) s log at s' l1 (record { answer = Code E_OK; next = next })
 unfolding chg_pri

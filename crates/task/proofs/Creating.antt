@@ -1,9 +1,7 @@
 -- cre_tsk, del_tsk and sta_tsk, in the order of the code's steps.
+use Rattle.std.specs.Prelude.{None, Option, Some}
 use Rattle.model.proofs.Terms.{ℕ, ◌≡◌, ◌∙◌, refl, sym, ◌≢◌, Bool, true, false, not, none, List, [], ◌∷◌, length, ℤ, pos, eqb, eq-eqb, ne_eqb, tasks, priorities, ◌!◌, E_OK, E_PAR, E_ID, E_LIMIT, E_OBJ, E_NOEXS, number, absent, dormant, ready_queue, Kernel, Nothing, arrive, unused, bad_number, no_such, none_free, cre_tsk_refusals, dormant_refusals, Refusal, refuse, first_refusal, outside, cre_tsk, del_tsk, sta_tsk, kernel, word_count, answer_bytes}
-use Rattle.model.specs.Number.{field_number, maybe_task}
-use Rattle.model.specs.declared.number.TaskNumber.{TaskNumber}
-use Rattle.model.specs.declared.number.MaybeTask.{MaybeTask}
-use Rattle.model.specs.declared.number.MaybeTask.TheVariants.{Task, Nothing as NoTask}
+use Rattle.model.specs.Number.{field_number, maybe_task, TaskNumber}
 use Rattle.model.specs.declared.call.Answer.{Answer}
 use Rattle.model.specs.declared.call.Answer.TheVariants.{Code}
 use Rattle.model.proofs.NumberLaws.{task_kind}
@@ -27,24 +25,24 @@ module _ (k : Kernel) (priority : ℤ) {b : ℤ} (b-is : b ≡ priority) {r : Bo
   unfolding cre_tsk_refusals
   create-outside e = field-refused (pos 1) (pos priorities) priority b-is r-is (full ∷ []) e
 
-  module _ (inside : r ≡ false) {found : MaybeTask} (made : found ≡ maybe_task (unused k.tasks.place tasks)) where
-    pub create-full : found ≡ NoTask → Refused E_LIMIT ≡ verdict (first_refusal (cre_tsk_refusals k priority))
+  module _ (inside : r ≡ false) {found : Option TaskNumber} (made : found ≡ maybe_task (unused k.tasks.place tasks)) where
+    pub create-full : found ≡ None → Refused E_LIMIT ≡ verdict (first_refusal (cre_tsk_refusals k priority))
     unfolding cre_tsk_refusals
     create-full e =
         field-later (pos 1) (pos priorities) priority b-is r-is (full ∷ []) inside (full-refused task_kind k.tasks.place made [] e)
 
-    pub create-allowed : {t : TaskNumber} → found ≡ Task t → Allowed ≡ verdict (first_refusal (cre_tsk_refusals k priority))
+    pub create-allowed : {t : TaskNumber} → found ≡ Some t → Allowed ≡ verdict (first_refusal (cre_tsk_refusals k priority))
     unfolding cre_tsk_refusals
     create-allowed e =
         field-later (pos 1) (pos priorities) priority b-is r-is (full ∷ []) inside (unused-later task_kind k.tasks.place made [] e refl)
 
-pub create-room : (k : Kernel) (priority : ℤ) {found : MaybeTask} → found ≡ maybe_task (unused k.tasks.place tasks)
-    → first_refusal (cre_tsk_refusals k priority) ≡ none → found ≡ NoTask → ⊥
+pub create-room : (k : Kernel) (priority : ℤ) {found : Option TaskNumber} → found ≡ maybe_task (unused k.tasks.place tasks)
+    → first_refusal (cre_tsk_refusals k priority) ≡ none → found ≡ None → ⊥
 unfolding cre_tsk_refusals none_free
 create-room k priority made e g = never-full task_kind k.tasks.place made (cre_tsk_refusals k priority) 1 e refl g
 
 pub creates-task : (caller : ℕ) (priority : ℤ) {b : ℤ} → b ≡ priority → {s s' log l1 : List ℕ} {at next : ℕ} → length s ≡ word_count
-    → {found : MaybeTask} {t : TaskNumber} {u p : ℕ} {answer : Answer} → found ≡ maybe_task (unused (kernel s).tasks.place tasks) → found ≡ Task t
+    → {found : Option TaskNumber} {t : TaskNumber} {u p : ℕ} {answer : Answer} → found ≡ maybe_task (unused (kernel s).tasks.place tasks) → found ≡ Some t
     → u ≡ t.0 → answer ≡ Code (pos u) → p ≡ number b → Represents s' (task_row (kernel s) t.0 dormant p) → Appends log at (answer_bytes answer) l1 next
     → CarriesInWords caller (λ w. cre_tsk w (number priority)) s log at s' l1 (record { answer = answer; next = next })
 unfolding cre_tsk
@@ -53,18 +51,18 @@ creates-task caller priority b-is h made some u-is a-is p-is r g =
 
 -- ---- del_tsk, and what sta_tsk asks
 
-module _ (k : Kernel) (task : ℤ) {b : ℤ} (b-is : b ≡ task) {found : MaybeTask} (from : found ≡ maybe_task (field_number b tasks)) where
+module _ (k : Kernel) (task : ℤ) {b : ℤ} (b-is : b ≡ task) {found : Option TaskNumber} (from : found ≡ maybe_task (field_number b tasks)) where
   made : found ≡ maybe_task (field_number task tasks)
   made = rw b-is at from
 
   abbrev awake : Refusal
   awake = refuse 8 E_OBJ (not (eqb (k.tasks.place ! number task) dormant))
 
-  pub dormant-numberless : found ≡ NoTask → Refused E_ID ≡ verdict (first_refusal (dormant_refusals k task))
+  pub dormant-numberless : found ≡ None → Refused E_ID ≡ verdict (first_refusal (dormant_refusals k task))
   unfolding dormant_refusals
   dormant-numberless e = number-refused task_kind task made (no_such k.tasks.place task ∷ awake ∷ []) e
 
-  module _ {t : TaskNumber} (some : found ≡ Task t) {x : ℕ} (x-is : x ≡ k.tasks.place ! t.0) where
+  module _ {t : TaskNumber} (some : found ≡ Some t) {x : ℕ} (x-is : x ≡ k.tasks.place ! t.0) where
     pub dormant-missing : x ≡ 0 → Refused E_NOEXS ≡ verdict (first_refusal (dormant_refusals k task))
     unfolding dormant_refusals
     dormant-missing e = missing-refused task_kind task made k.tasks.place (awake ∷ []) some x-is e
@@ -85,12 +83,12 @@ module _ (k : Kernel) (task : ℤ) {b : ℤ} (b-is : b ≡ task) {found : MaybeT
           there-later task_kind task made k.tasks.place (awake ∷ []) some x-is there
           (refused-later awake [] (rw (is-task, eq-eqb (k.tasks.place ! t.0) dormant (sym x-is ∙ e))) refl)
 
-  pub dormant-named : first_refusal (dormant_refusals k task) ≡ none → found ≡ NoTask → ⊥
+  pub dormant-named : first_refusal (dormant_refusals k task) ≡ none → found ≡ None → ⊥
   unfolding dormant_refusals bad_number
   dormant-named e g = never-unnumbered task_kind task made (dormant_refusals k task) 0 e refl g
 
 module _ (caller : ℕ) (task : ℤ) {b : ℤ} (b-is : b ≡ task) {s s' log l1 : List ℕ} {at next : ℕ} (h : length s ≡ word_count)
-    {found : MaybeTask} {t : TaskNumber} (from : found ≡ maybe_task (field_number b tasks)) (some : found ≡ Task t) where
+    {found : Option TaskNumber} {t : TaskNumber} (from : found ≡ maybe_task (field_number b tasks)) (some : found ≡ Some t) where
   pub deletes : Represents s' (task_row (kernel s) t.0 absent 0) → Appends log at (answer_bytes (Code E_OK)) l1 next
       → CarriesInWords caller (λ w. del_tsk w (number task)) s log at s' l1 (record { answer = Code E_OK; next = next })
   unfolding del_tsk

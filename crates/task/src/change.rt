@@ -12,17 +12,17 @@ ghost use Rattle.model.specs.Words.{word_count, kernel};
 ghost use Rattle.state.specs.Words.{Represents};
 ghost use Rattle.reply.specs.Replies.{CarriesInWords};
 
-use state::layout::Words;
 use act::task::rejoin;
 use model::call::Answer;
 use model::code::{E_OK, Error};
 use model::number::{TaskNumber, natural};
 use model::sizes::{PRIORITIES, TASKS};
 use priority::recompute;
-use reply::field::outside;
 use reply::Reply;
+use reply::field::outside;
 use script::log::log_answer;
 use search::ceiling::above_any_ceiling;
+use state::layout::Words;
 use state::task::{ABSENT, initial, place, set_base};
 
 // "task 0 is the caller in chg_pri only"
@@ -48,7 +48,12 @@ fn chosen_base(state: &Words, t: TaskNumber, priority: i32) -> u32
     p
 }
 
-pub fn refuse_chg_pri(state: &Words, caller: TaskNumber, task: i32, priority: i32) -> Result<(), Error>
+pub fn refuse_chg_pri(
+    state: &Words,
+    caller: TaskNumber,
+    task: i32,
+    priority: i32,
+) -> Result<(), Error>
     requires caller_value { caller.0 ≡ running (kernel state.now) }
     requires le_caller { 1 ≤ caller.0 }
     ensures { refusal_of result ≡ first_refusal (chg_pri_refusals (kernel state.now) task priority) }

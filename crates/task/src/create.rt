@@ -10,15 +10,15 @@ ghost use Rattle.state.specs.Words.{Represents};
 ghost use Rattle.reply.specs.Replies.{CarriesInWords};
 ghost use Rattle.task.specs.Rows.{task_row};
 
-use state::layout::Words;
 use model::call::Answer;
 use model::code::{E_OK, Error};
 use model::number::{TaskNumber, natural};
 use model::sizes::PRIORITIES;
-use reply::field::{answer_number, outside};
 use reply::Reply;
+use reply::field::{answer_number, outside};
 use script::log::log_answer;
 use search::unused::unused_task;
+use state::layout::Words;
 use state::task;
 
 pub fn refuse_cre_tsk(state: &Words, priority: i32) -> Result<(), Error>

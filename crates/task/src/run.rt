@@ -9,7 +9,6 @@ ghost use Rattle.model.specs.Errors.{refusal_of};
 ghost use Rattle.model.specs.Words.{word_count, kernel};
 ghost use Rattle.reply.specs.Replies.{CarriesInWords, CarriesInLog};
 
-use state::layout::Words;
 use act::task::become_dormant;
 use model::call::Answer;
 use model::code::{E_OK, Error};
@@ -17,6 +16,7 @@ use model::number::TaskNumber;
 use queue::arrival::arrive;
 use reply::Reply;
 use script::log::log_answer;
+use state::layout::Words;
 use state::task::{ABSENT, DORMANT, READY, place};
 
 // "the task is started and joins the ready line". The field names a task, since nothing refuses the call; so below.

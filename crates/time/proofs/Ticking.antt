@@ -1,4 +1,5 @@
 -- tick, in the order of the code's steps.
+use Rattle.std.specs.Prelude.{Option, Some}
 use Prim.Native.Nat.{ℕ}
 use mathlib.Core.Path.{◌≡◌, ◌∙◌, sym}
 use mathlib.Core.List.{List}
@@ -6,10 +7,7 @@ use lib.ListN.{length}
 use Rattle.model.specs.Sizes.{tasks}
 use Rattle.model.specs.Lists.{up_to}
 use Rattle.model.specs.Code.{E_OK}
-use Rattle.model.specs.Number.{word_number, maybe_task}
-use Rattle.model.specs.declared.number.TaskNumber.{TaskNumber}
-use Rattle.model.specs.declared.number.MaybeTask.{MaybeTask}
-use Rattle.model.specs.declared.number.MaybeTask.TheVariants.{Task}
+use Rattle.model.specs.Number.{word_number, maybe_task, TaskNumber}
 use Rattle.model.specs.declared.call.Answer.TheVariants.{Code}
 use Rattle.model.specs.World.{Nothing}
 use Rattle.model.specs.Effect.{tick_task, tick}
@@ -23,8 +21,8 @@ use Rattle.reply.specs.Replies.{CarriesInLog}
 use Rattle.reply.proofs.Replying.{answer-alone, carried-in-log}
 use Rattle.time.specs.Ticks.{ticks}
 
-pub ticks-numbered : (n : ℕ) {found : MaybeTask} {t : TaskNumber} {s o log s' o' log' : List ℕ} {at next : ℕ} → found ≡ maybe_task (word_number n tasks)
-    → found ≡ Task t → DoesInLog (λ w. tick_task w t.0) s o log at s' o' log' next → DoesInLog (λ w. tick_task w n) s o log at s' o' log' next
+pub ticks-numbered : (n : ℕ) {found : Option TaskNumber} {t : TaskNumber} {s o log s' o' log' : List ℕ} {at next : ℕ} → found ≡ maybe_task (word_number n tasks)
+    → found ≡ Some t → DoesInLog (λ w. tick_task w t.0) s o log at s' o' log' next → DoesInLog (λ w. tick_task w n) s o log at s' o' log' next
 ticks-numbered n made some d = rw (task-there n _ (sym made ∙ some)).0 at d
 
 pub ticking : {s o log : List ℕ} {at : ℕ} → length s ≡ word_count → LeftInLog ticks (over (λ t w. tick_task w t) (up_to tasks)) s o log at s o log at

@@ -10,7 +10,6 @@ ghost use Rattle.act.specs.Held.{DoesInLog};
 ghost use Rattle.reply.specs.Replies.{CarriesInLog};
 ghost use Rattle.time.specs.Ticks.{ticks};
 
-use state::layout::Words;
 use act::task::tick_task;
 use model::call::Answer;
 use model::code::E_OK;
@@ -18,6 +17,7 @@ use model::number::TaskNumber;
 use model::sizes::TASKS;
 use reply::Reply;
 use script::log::log_answer;
+use state::layout::Words;
 
 // A millisecond passes for the task of a number.
 fn tick_numbered(state: &mut Words, outbox: &mut [u8], log: &mut [u8], at: usize, n: u32) -> usize

@@ -1,4 +1,5 @@
 -- The senders of a buffer, one after the other, and the buffers. Assumes nothing.
+use Rattle.std.specs.Prelude.{None, Option, Some}
 use Prim.Native.Nat.{ℕ, suc, ◌+◌, ◌-◌, ◌≤◌, ◌<◌}
 use native.Mathlib.Nat.{min-le_left}
 use native.Mathlib.Omega.{arith}
@@ -10,13 +11,7 @@ use lib.Dec.{eqb}
 use Rattle.model.specs.Sizes.{tasks, buffers}
 use Rattle.model.specs.Lists.{◌!◌, up_to}
 use Rattle.model.specs.Code.{E_OK}
-use Rattle.model.specs.Number.{word_number, maybe_task, maybe_buffer}
-use Rattle.model.specs.declared.number.TaskNumber.{TaskNumber}
-use Rattle.model.specs.declared.number.MaybeTask.{MaybeTask}
-use Rattle.model.specs.declared.number.MaybeTask.TheVariants.{Task}
-use Rattle.model.specs.declared.number.BufferNumber.{BufferNumber}
-use Rattle.model.specs.declared.number.MaybeBuffer.{MaybeBuffer}
-use Rattle.model.specs.declared.number.MaybeBuffer.TheVariants.{Buffer, Nothing as NoBuffer}
+use Rattle.model.specs.Number.{word_number, maybe_task, maybe_buffer, BufferNumber, TaskNumber}
 use Rattle.model.specs.Valid.{From}
 use Rattle.model.specs.Facts.{queue, sending}
 use Rattle.model.specs.Kernel.{Kernel}
@@ -36,8 +31,8 @@ use Rattle.transfer.specs.Serving.{FirstSender, served}
 
 -- ---- the first sender, if its message fits
 
-pub first-sender : (k : Kernel) (b : ℕ) {f : MaybeTask} {t : TaskNumber} → f ≡ maybe_task (cond (first_fits k b) (queue_front k (queue sending b)) 0)
-    → f ≡ Task t → FirstSender k b t.0
+pub first-sender : (k : Kernel) (b : ℕ) {f : Option TaskNumber} {t : TaskNumber} → f ≡ maybe_task (cond (first_fits k b) (queue_front k (queue sending b)) 0)
+    → f ≡ Some t → FirstSender k b t.0
 first-sender k b f-is e = let r = first_some k b f-is e in record { fits = r.0; first = r.1 }
 
 -- ---- its message is stored, and its wait ends
@@ -88,10 +83,10 @@ pub left-drain : {a : Areas} {at : ℕ} → Left drain (over served (up_to buffe
 unfolding drain
 left-drain = left-all
 
-module _ (n : ℕ) {found : MaybeBuffer} (made : found ≡ maybe_buffer (word_number n buffers)) {a c : Areas} {at next : ℕ} where
-  pub drains-buffer : {b : BufferNumber} → found ≡ Buffer b → Does (served b.0) a at c next → Does (served n) a at c next
+module _ (n : ℕ) {found : Option BufferNumber} (made : found ≡ maybe_buffer (word_number n buffers)) {a c : Areas} {at next : ℕ} where
+  pub drains-buffer : {b : BufferNumber} → found ≡ Some b → Does (served b.0) a at c next → Does (served n) a at c next
   drains-buffer e d = subst (λ (m : ℕ). Does (served m) a at c next) (named buffer_kind made e).0 d
 
   -- every number from 1 to the last names a buffer
-  pub drains-none : From 1 buffers n → found ≡ NoBuffer → Does (served n) a at c next
+  pub drains-none : From 1 buffers n → found ≡ None → Does (served n) a at c next
   drains-none h e = absurd (never-unnamed buffer_kind made h.0 h.1 e)

@@ -8,7 +8,6 @@ ghost use Rattle.model.specs.Words.{word_count, kernel};
 ghost use Rattle.act.specs.Held.{areas, Does};
 ghost use Rattle.transfer.specs.Serving.{FirstSender, served};
 
-use state::layout::Words;
 use super::store::store_message;
 use act::wait::end_wait;
 use message::outbox::outbox_message;
@@ -16,6 +15,7 @@ use model::code::E_OK;
 use model::number::{BufferNumber, TaskNumber};
 use model::sizes::{BUFFERS, TASKS};
 use search::sender::{anyone_sends, first_fitting};
+use state::layout::Words;
 
 // The first sender's message is stored, and its wait ends.
 fn store_first(

@@ -5,11 +5,11 @@ ghost use Rattle.model.specs.Effect.{take_oldest};
 ghost use Rattle.model.specs.Words.{word_count, kernel};
 ghost use Rattle.act.specs.Held.{DoesInStore};
 
-use state::layout::Words;
 use message::copy::least;
 use message::room::cost;
 use message::store::{store_append, store_oldest_length, store_remove};
 use model::number::BufferNumber;
+use state::layout::Words;
 
 // A message is stored. A caller has seen that it fits: else the bytes used need not be a word.
 pub fn store_message(state: &mut Words, store: &mut [u8], b: BufferNumber, m: &[u8])

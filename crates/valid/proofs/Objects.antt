@@ -1,5 +1,6 @@
 -- Laws of the tests of one object: entries by a word that names an object or nothing, who may hold a mutex, what is waited
 -- for, and a base above no ceiling. Assumes nothing.
+use Rattle.std.specs.Prelude.{Option}
 use Prim.Native.Nat.{ℕ, suc}
 use native.Mathlib.Omega.{arith}
 use mathlib.Core.Path.{◌≡◌, ◌∙◌, refl, sym, ap}
@@ -12,11 +13,10 @@ use borrow.Author.Tests.{eq-eqb, ne_eqb}
 use Rattle.model.specs.Sizes.{tasks, mutexes}
 use Rattle.model.specs.Lists.{◌!◌, all, any, up_to}
 use Rattle.model.specs.Facts.{ready, locking, getting}
-use Rattle.model.specs.Number.{word_number, maybe_task}
+use Rattle.model.specs.Number.{word_number, maybe_task, TaskNumber}
 use Rattle.model.specs.Kernel.{Kernel}
 use Rattle.model.specs.Refusal.{above_ceiling}
 use Rattle.model.specs.Valid.{awaitable, ceiling}
-use Rattle.model.specs.declared.number.MaybeTask.{MaybeTask}
 use Rattle.model.proofs.NumberLaws.{NamesNone, Kind, task_kind, named, unnamed}
 
 -- ---- an entry by a word: the object's, or 0 where entry 0 is
@@ -39,7 +39,7 @@ module _ (places : List ℕ) (n : ℕ) where
   pub hold-none : n ≡ 0 → true ≡ eqb n 0 || leb ready (places ! n)
   hold-none e = rw (eq-eqb n 0 e)
 
-  module _ (d : n ≡ 0 → ⊥) {found : MaybeTask} (made : found ≡ maybe_task (word_number n tasks)) where
+  module _ (d : n ≡ 0 → ⊥) {found : Option TaskNumber} (made : found ≡ maybe_task (word_number n tasks)) where
     pub hold-nobody : found ≡ task_kind.none → length places ≡ suc tasks → false ≡ eqb n 0 || leb ready (places ! n)
     hold-nobody none long = rw (ne_eqb n 0 d, beyond tasks places n long (unnamed task_kind made none) (λ e. absurd (d e)))
 

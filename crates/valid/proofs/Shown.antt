@@ -1,4 +1,5 @@
 -- Where the next message lies that is shown, by what was found out. Assumes nothing.
+use Rattle.std.specs.Prelude.{Option}
 use Prim.Native.Nat.{ℕ}
 use mathlib.Core.Path.{◌≡◌, ◌∙◌, refl, sym, ap}
 use mathlib.Core.Bool.{Bool, true, false, ◌&&◌, not, cond, false≢true}
@@ -11,15 +12,11 @@ use Rattle.model.specs.Sizes.{buffers}
 use Rattle.model.specs.Lists.{◌!◌}
 use Rattle.model.specs.Code.{number}
 use Rattle.model.specs.Facts.{queue, sending}
-use Rattle.model.specs.Number.{field_number, maybe_task, maybe_buffer}
+use Rattle.model.specs.Number.{field_number, maybe_task, maybe_buffer, BufferNumber, TaskNumber}
 use Rattle.model.specs.Kernel.{Kernel}
 use Rattle.model.specs.World.{queue_front}
 use Rattle.model.specs.Refusal.{bad_number, no_such}
 use Rattle.model.specs.Valid.{valid}
-use Rattle.model.specs.declared.number.BufferNumber.{BufferNumber}
-use Rattle.model.specs.declared.number.TaskNumber.{TaskNumber}
-use Rattle.model.specs.declared.number.MaybeTask.{MaybeTask}
-use Rattle.model.specs.declared.number.MaybeBuffer.{MaybeBuffer}
 use Rattle.model.proofs.NumberLaws.{field-inside, field-outside, task_kind, buffer_kind, is_some, is_none}
 use Rattle.model.specs.Words.{word_count, kernel}
 use Rattle.message.specs.NextMessage.{message_at, located, has_buffer, next_location}
@@ -60,7 +57,7 @@ module _ (w s o : List ℕ) where
           go false q = absurd (false≢true q)
 
       -- the field is handed on as a word
-      module _ (m : ℤ) (same : m ≡ n) {found : MaybeBuffer} (made : found ≡ maybe_buffer (field_number m buffers)) where
+      module _ (m : ℤ) (same : m ≡ n) {found : Option BufferNumber} (made : found ≡ maybe_buffer (field_number m buffers)) where
         made_of : found ≡ maybe_buffer (field_number n buffers)
         made_of = made ∙ ap (λ (i : ℤ). maybe_buffer (field_number i buffers)) same
 
@@ -89,7 +86,7 @@ module _ (k : Kernel) (b : BufferNumber) (used : ℕ) (u : used ≡ k.buffers.us
   unfolding located
   is-stored d = rw (← u, ne_eqb _ _ d)
 
-  module _ (empty : used ≡ 0) (n : ℕ) (word : n ≡ b.0) {found : MaybeTask} (front : found ≡ maybe_task (queue_front k (queue sending n))) where
+  module _ (empty : used ≡ 0) (n : ℕ) (word : n ≡ b.0) {found : Option TaskNumber} (front : found ≡ maybe_task (queue_front k (queue sending n))) where
     pub nobody-sends : found ≡ task_kind.none → Nowhere ≡ located k b.0
     unfolding located
     nobody-sends none = rw (← u, eq-eqb _ _ empty, ← word, eq-eqb _ _ (is_none task_kind front none))

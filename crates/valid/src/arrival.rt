@@ -7,11 +7,11 @@ ghost use Rattle.model.specs.Valid.{arrivals};
 ghost use Rattle.model.specs.Words.{word_count, kernel};
 ghost use Rattle.valid.specs.Parts.{stands_once, has_started, given};
 
-use state::layout::Words;
 use super::range::may_hold;
 use model::number::TaskNumber;
-use model::sizes::{PLACES, TASKS};
+use model::sizes::PLACES;
 use state::arrival::task;
+use state::layout::Words;
 use state::task::READY;
 
 // 1 for two numbers that are the same, else 0.
@@ -45,16 +45,7 @@ fn stands_once(state: &Words, t: TaskNumber) -> bool
 fn each_stands_once(state: &Words) -> bool
     ensures { result ≡ all (stands_once (kernel state.now)) (up_to tasks) }
 {
-    for n in 1..=TASKS {
-        let found = TaskNumber::from_word(n);
-        let Some(t) = found else {
-            return false;
-        };
-        if !stands_once(state, t) {
-            return false;
-        }
-    }
-    true
+    TaskNumber::every(|t| stands_once(state, t))
 }
 
 // Whoever stands there was started; a place may be none's.

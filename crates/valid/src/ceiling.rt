@@ -5,9 +5,9 @@ ghost use Rattle.model.specs.Lists.{all, up_to};
 ghost use Rattle.model.specs.Valid.{ceiling};
 ghost use Rattle.model.specs.Words.{word_count, kernel};
 
-use state::layout::Words;
 use model::number::TaskNumber;
 use search::ceiling::above_any_ceiling;
+use state::layout::Words;
 
 // The sentence of one task and every mutex.
 pub(crate) fn ceilings_of(state: &Words, t: TaskNumber) -> bool

@@ -7,12 +7,11 @@ ghost use Rattle.model.specs.Valid.{TaskLists, current_priorities, right_bitmap}
 ghost use Rattle.model.specs.Words.{word_count, kernel};
 ghost use Rattle.valid.specs.Parts.{same_current};
 
-use state::layout::Words;
 use model::number::TaskNumber;
-use model::sizes::TASKS;
 use priority::work_out;
 use ready::fresh_bits;
 use state::bitmap::bits;
+use state::layout::Words;
 
 // Whether a task has the same current priority in two states, and whether every task has.
 fn same_current(state: &Words, other: &Words, t: TaskNumber) -> bool
@@ -24,16 +23,7 @@ fn same_current(state: &Words, other: &Words, t: TaskNumber) -> bool
 fn same_currents(state: &Words, other: &Words) -> bool
     ensures { result ≡ all (same_current (kernel state.now) (kernel other.now)) (up_to tasks) }
 {
-    for n in 1..=TASKS {
-        let found = TaskNumber::from_word(n);
-        let Some(t) = found else {
-            return false;
-        };
-        if !same_current(state, other, t) {
-            return false;
-        }
-    }
-    true
+    TaskNumber::every(move |t| same_current(state, other, t))
 }
 
 pub(crate) fn priorities(state: &Words) -> bool

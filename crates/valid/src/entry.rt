@@ -6,8 +6,8 @@ ghost use Rattle.model.specs.Lists.{◌!◌};
 ghost use Rattle.model.specs.Valid.{MutexLists, BufferLists, PoolLists};
 ghost use Rattle.model.specs.Words.{word_count, kernel};
 
-use state::layout::Words;
 use model::number::{BufferNumber, MutexNumber, PoolNumber};
+use state::layout::Words;
 
 // 1 if the object exists, else 0.
 pub(crate) fn mutex_exists(state: &Words, n: u32) -> u32

@@ -20,11 +20,10 @@ ghost use Rattle.model.specs.Words.{word_count, kernel};
 ghost use Rattle.model.specs.Lent.{lent, is_valid};
 ghost use Rattle.valid.specs.Check.{right_lengths, none_zero, clauses};
 
-use state::layout::Words;
 use areas::layout::regions_laid_out;
 use areas::outbox::outbox_laid_out;
 use model::sizes::{OUTBOX_BYTES, STORE_BYTES};
-use state::layout::WORDS;
+use state::layout::{WORDS, Words};
 use state::none;
 
 // "state not sound, or an area not exactly" as long as it has to be: the lengths come first, so that whatever is lent can be read.

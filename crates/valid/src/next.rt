@@ -5,11 +5,11 @@ ghost use Rattle.message.specs.NextMessage.{located};
 ghost use Rattle.model.specs.Words.{word_count, kernel};
 ghost use Rattle.valid.specs.Shown.{shown_location, shown_message};
 
-use state::layout::Words;
 use super::is_valid;
 use message::next::Location;
 use model::number::BufferNumber;
 use queue::front::front;
+use state::layout::Words;
 use state::task::SENDING;
 
 // "the oldest stored message, else the first sender's".

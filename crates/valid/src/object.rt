@@ -7,13 +7,12 @@ ghost use Rattle.model.specs.Flags.{passes};
 ghost use Rattle.model.specs.Words.{word_count, kernel};
 ghost use Rattle.valid.specs.Check.{task_tests, buffer_tests};
 
-use state::layout::Words;
 use super::ceiling::ceilings_of;
 use super::range::{buffer_range, task_range};
 use super::wait::{argument, locking_task, wait_fields};
 use super::waiter::{first_sender, getting_task, receiving_task};
 use model::number::{BufferNumber, TaskNumber};
-use model::sizes::{BUFFERS, TASKS};
+use state::layout::Words;
 
 // All clauses that are about one task.
 fn task_valid(state: &Words, t: TaskNumber) -> bool
@@ -38,36 +37,18 @@ fn buffer_valid(state: &Words, b: BufferNumber) -> bool
     buffer_range(state, b) & first_sender(state, b)
 }
 
-// The same of every task and every buffer. Each number of a loop names an object, so no answer is given for want of one.
+// The same of every task and every buffer.
 pub(crate) fn tasks_valid(state: &Words) -> bool
     requires mutex_lists { MutexLists (kernel state.now).mutexes }
     requires buffer_lists { BufferLists (kernel state.now).buffers }
     requires pool_lists { PoolLists (kernel state.now).pools }
     ensures { result ≡ all (passes (task_tests (kernel state.now))) (up_to tasks) }
 {
-    for n in 1..=TASKS {
-        let found = TaskNumber::from_word(n);
-        let Some(t) = found else {
-            return false;
-        };
-        if !task_valid(state, t) {
-            return false;
-        }
-    }
-    true
+    TaskNumber::every(|t| task_valid(state, t))
 }
 
 pub(crate) fn buffers_valid(state: &Words) -> bool
     ensures { result ≡ all (passes (buffer_tests (kernel state.now))) (up_to buffers) }
 {
-    for n in 1..=BUFFERS {
-        let found = BufferNumber::from_word(n);
-        let Some(b) = found else {
-            return false;
-        };
-        if !buffer_valid(state, b) {
-            return false;
-        }
-    }
-    true
+    BufferNumber::every(|b| buffer_valid(state, b))
 }

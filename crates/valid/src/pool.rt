@@ -7,11 +7,11 @@ ghost use Rattle.model.specs.Valid.{block_flag, PoolLists};
 ghost use Rattle.model.specs.Words.{word_count, kernel};
 ghost use Rattle.valid.specs.Check.{block_flags};
 
-use state::layout::Words;
 use super::range::within;
 use model::number::PoolNumber;
-use model::sizes::{BLOCKS, POOLS};
+use model::sizes::BLOCKS;
 use search::room::pools_exceed;
+use state::layout::Words;
 use state::none::flags_zero;
 
 // "unused entries as in the fresh bench": a flag is 0, or 1 and its block one of the pool's. Block 0 stands for none and is asked too.
@@ -23,7 +23,7 @@ fn block_flag(state: &Words, p: PoolNumber, b: u32) -> bool
     (flag == 0) | (flag == 1) & within(1, count, b)
 }
 
-// Of every block of a pool, and of every pool. Each number of the loop over pools names one, so no answer is given for want of one.
+// Of every block of a pool, and of every pool.
 fn flags_of(state: &Words, p: PoolNumber) -> bool
     ensures { result ≡ all (block_flag (kernel state.now) p.0) (count_from 0 (suc blocks)) }
 {
@@ -38,16 +38,7 @@ fn flags_of(state: &Words, p: PoolNumber) -> bool
 fn flags_of_pools(state: &Words) -> bool
     ensures { result ≡ all (λ p. all (block_flag (kernel state.now) p) (count_from 0 (suc blocks))) (up_to pools) }
 {
-    for n in 1..=POOLS {
-        let found = PoolNumber::from_word(n);
-        let Some(p) = found else {
-            return false;
-        };
-        if !flags_of(state, p) {
-            return false;
-        }
-    }
-    true
+    PoolNumber::every(|p| flags_of(state, p))
 }
 
 // Of none's flags, those of pool 0, and of all others.

@@ -7,11 +7,11 @@ ghost use Rattle.model.specs.Facts.{ready};
 ghost use Rattle.model.specs.Valid.{task_range, mutex_range, buffer_range, pool_range};
 ghost use Rattle.model.specs.Words.{word_count, kernel};
 
-use state::layout::Words;
 use model::attribute;
 use model::attribute::CEILINGED;
 use model::number::{BufferNumber, MutexNumber, PoolNumber, TaskNumber};
-use model::sizes::{BLOCK_BYTES, BLOCKS, MESSAGE_BYTES, MUTEXES, POOLS, PRIORITIES, REGION_BYTES};
+use model::sizes::{BLOCK_BYTES, BLOCKS, MESSAGE_BYTES, PRIORITIES, REGION_BYTES};
+use state::layout::Words;
 use state::task::{ABSENT, DORMANT, GETTING, READY};
 
 // The largest bufsz and maxmsz, as words of the state.
@@ -107,33 +107,15 @@ fn pool_range(state: &Words, p: PoolNumber) -> bool
     unused | used
 }
 
-// The same of every mutex and every pool. Each number of a loop names an object, so no answer is given for want of one.
+// The same of every mutex and every pool.
 pub(crate) fn mutexes_in_range(state: &Words) -> bool
     ensures { result ≡ all (mutex_range (kernel state.now)) (up_to mutexes) }
 {
-    for n in 1..=MUTEXES {
-        let found = MutexNumber::from_word(n);
-        let Some(m) = found else {
-            return false;
-        };
-        if !mutex_range(state, m) {
-            return false;
-        }
-    }
-    true
+    MutexNumber::every(|m| mutex_range(state, m))
 }
 
 pub(crate) fn pools_in_range(state: &Words) -> bool
     ensures { result ≡ all (pool_range (kernel state.now)) (up_to pools) }
 {
-    for n in 1..=POOLS {
-        let found = PoolNumber::from_word(n);
-        let Some(p) = found else {
-            return false;
-        };
-        if !pool_range(state, p) {
-            return false;
-        }
-    }
-    true
+    PoolNumber::every(|p| pool_range(state, p))
 }

@@ -5,11 +5,11 @@ ghost use Rattle.model.specs.Lists.{◌!◌};
 ghost use Rattle.model.specs.Valid.{MutexLists, BufferLists, PoolLists, awaitable, argument, wait_fields, locking_task};
 ghost use Rattle.model.specs.Words.{word_count, kernel};
 
-use state::layout::Words;
 use super::entry;
 use super::range::within;
 use model::number::TaskNumber;
 use model::sizes::{ENDLESS, LONGEST};
+use state::layout::Words;
 use state::task::{GETTING, LOCKING, SENDING};
 
 // "unused entries as in the fresh bench": a sender's wait has the length of its message, 1 to the buffer's maxmsz, and no other wait has

@@ -8,12 +8,11 @@ ghost use Rattle.model.specs.Valid.{BufferLists, PoolLists, getting_task, receiv
 ghost use Rattle.model.specs.Words.{word_count, kernel};
 ghost use Rattle.valid.specs.Parts.{no_sender};
 
-use state::layout::Words;
 use super::entry;
 use model::number::{BufferNumber, PoolNumber, TaskNumber};
-use model::sizes::TASKS;
 use search::block::free_block;
 use search::sender::first_fitting;
+use state::layout::Words;
 use state::task::{GETTING, RECEIVING, SENDING};
 
 // Whether a pool has no free block, by a word; where no pool is named, no block is free.
@@ -50,16 +49,7 @@ fn no_sender(state: &Words, b: u32, s: TaskNumber) -> bool
 fn no_senders(state: &Words, b: u32) -> bool
     ensures { result ≡ all (no_sender (kernel state.now) b) (up_to tasks) }
 {
-    for n in 1..=TASKS {
-        let found = TaskNumber::from_word(n);
-        let Some(s) = found else {
-            return false;
-        };
-        if !no_sender(state, b, s) {
-            return false;
-        }
-    }
-    true
+    TaskNumber::every(move |s| no_sender(state, b, s))
 }
 
 // "no receivers beside messages or senders".

@@ -17,7 +17,7 @@ next_to_run-runs-requires c =
     let g = c.args in
     let r = calls-bits (areas g.state.now g.store.now g.outbox.now g.log.now) g.call g.message.now
     c.if-log-ne-LOG_BYTES.false c.is_valid.ensures c.if-not-is_valid.false in
-    record { state_len = r.0; bitmap = r.1 }
+    r.1
 
 pub valid_step-step-requires : goal.valid_step-step-requires
 valid_step-step-requires c =

@@ -1,4 +1,5 @@
 -- `set_holder_to_own` meets its contract: the holder is a task, or nobody. Assumes nothing.
+use Rattle.state.proofs.WordLaws.{long}
 use native.Mathlib.Omega.{arith}
 use mathlib.Core.Path.{◌∙◌, sym}
 use Rattle.model.specs.Sizes.{tasks}
@@ -10,14 +11,14 @@ use Rattle.priority.proofs.StartLaws.{holder-none, holder-task}
 use Rattle.priority.proofs.set_holder_to_own.Goals as goal
 
 pub returns-in_default : goal.returns-in_default
-returns-in_default c = onto (unchanged c.requires.state_len) (holder-none _ _ (task-none _ (sym c.ceiling_holder.ensures ∙ c.in_default.is)))
+returns-in_default c = onto (unchanged (long _ c.told-state)) (holder-none _ _ (task-none _ (sym c.ceiling_holder.ensures ∙ c.in_default.is)))
 
 pub own_priority-p-requires : goal.own_priority-p-requires
 own_priority-p-requires c =
-    let is-holder : let a = c.args in Names tasks (ceiling_holder (kernel a.state.now) a.n) c.in-Task.t.0 = task-there _ _ (sym c.ceiling_holder.ensures ∙ c.in-Task.is) in
-    let names = is-holder in record { state_len = c.requires.state_len; le_t = omega arith }
+    let is-holder : let a = c.args in Names tasks (ceiling_holder (kernel a.state.now) a.n) c.in-Some.t.0 = task-there _ _ (sym c.ceiling_holder.ensures ∙ c.in-Some.is) in
+    let names = is-holder in (omega arith)
 
 pub returns : goal.returns
 returns c =
-    let is-holder : let a = c.args in Names tasks (ceiling_holder (kernel a.state.now) a.n) c.in-Task.t.0 = task-there _ _ (sym c.ceiling_holder.ensures ∙ c.in-Task.is) in
+    let is-holder : let a = c.args in Names tasks (ceiling_holder (kernel a.state.now) a.n) c.in-Some.t.0 = task-there _ _ (sym c.ceiling_holder.ensures ∙ c.in-Some.is) in
     onto (rw c.own_priority-p.ensures at c.set_current.ensures) (holder-task _ _ (is-holder))

@@ -12,5 +12,5 @@ returns-in_default c = inside (search rules) (search rules) (task-none _ (sym c.
 
 pub returns : goal.returns
 returns c =
-    let is-task : Names tasks c.args.n c.in-Task.t.0 = task-there _ _ (sym c.from_word.ensures ∙ c.in-Task.is) in
+    let is-task : Names tasks c.args.n c.in-Some.t.0 = task-there _ _ (sym c.from_word.ensures ∙ c.in-Some.is) in
     rw (c.base-p.ensures, (is-task).0, base-is (kernel c.args.state.now) _ (is-task).1) at c.set_current.ensures

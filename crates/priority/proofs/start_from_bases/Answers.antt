@@ -12,7 +12,7 @@ pub loop-n-init : goal.loop-n-init
 loop-n-init c = let r = c.set_every_current.ensures in (record { length = r.length; kernel = rw r.kernel (bases-start _) }, omega arith)
 
 pub set_to_base-requires : goal.set_to_base-requires
-set_to_base-requires c = record { state_len = c.loop-n.invariant.0.length; le_n = omega arith; n_le_tasks = omega arith }
+set_to_base-requires c = record { le_n = omega arith; n_le_tasks = omega arith }
 
 pub loop-n-preserved : goal.loop-n-preserved
 loop-n-preserved c = (turn bases_so_far (λ k n. with_current k n (base_of k n)) _ _ c.loop-n.invariant.0 c.set_to_base.ensures (bases-step _ _ (omega arith)), omega arith)

@@ -11,7 +11,7 @@ pub loop-n-init : goal.loop-n-init
 loop-n-init c = let r = c.start_from_bases.ensures in (record { length = r.length; kernel = rw r.kernel (holders-start _) }, omega arith)
 
 pub set_holder_to_own-requires : goal.set_holder_to_own-requires
-set_holder_to_own-requires c = record { state_len = c.loop-n.invariant.0.length; le_n = omega arith; n_le_mutexes = omega arith }
+set_holder_to_own-requires c = record { le_n = omega arith; n_le_mutexes = omega arith }
 
 pub loop-n-preserved : goal.loop-n-preserved
 loop-n-preserved c = (turn holders_so_far holder_at_own _ _ c.loop-n.invariant.0 c.set_holder_to_own.ensures (holders-step _ _), omega arith)

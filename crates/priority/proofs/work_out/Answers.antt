@@ -1,4 +1,5 @@
 -- `work_out` meets its contract. The loop's invariant: the tasks passed have passed their current priorities on. Assumes nothing.
+use Rattle.state.proofs.WordLaws.{long}
 use mathlib.Core.Path.{◌≡◌, ◌∙◌, ap}
 use native.Mathlib.Omega.{arith}
 use Rattle.model.specs.Sizes.{tasks}
@@ -13,7 +14,7 @@ pub loop-n-init : goal.loop-n-init
 loop-n-init c = (record { length = c.start_from_own.ensures.length; kernel = passed_start _ }, omega arith)
 
 pub pass_on-requires : goal.pass_on-requires
-pass_on-requires c = record { state_len = c.loop-n.invariant.0.length; le_n = omega arith; n_le_tasks = omega arith }
+pass_on-requires c = record { le_n = omega arith; n_le_tasks = omega arith }
 
 pub loop-n-preserved : goal.loop-n-preserved
 loop-n-preserved c = (turn passed_so_far passed_on _ _ c.loop-n.invariant.0 c.pass_on.ensures (passed-step _ _), omega arith)
@@ -22,4 +23,4 @@ pub returns : goal.returns
 returns c =
     let e : c.loop-n.n ≡ tasks = omega arith in
     onto c.loop-n.invariant.0
-    (ap (passed_so_far _) e ∙ ap (λ (k : Kernel). passed_so_far k tasks) c.start_from_own.ensures.kernel ∙ passed-done _ (place-length _ c.requires))
+    (ap (passed_so_far _) e ∙ ap (λ (k : Kernel). passed_so_far k tasks) c.start_from_own.ensures.kernel ∙ passed-done _ (place-length _ (long _ c.told-state)))

@@ -6,4 +6,4 @@ pub returns-in_default : goal.returns-in_default
 returns-in_default c = not-ready-at _ _ c.ready_task-found.ensures _ c.in_default.is
 
 pub returns : goal.returns
-returns c = ready-at-is _ _ c.ready_task-found.ensures c.in-Task.is c.current.ensures _
+returns c = ready-at-is _ _ c.ready_task-found.ensures c.in-Some.is c.current.ensures _

@@ -9,4 +9,4 @@ returns-in_default c = adds-nothing _ _ c.ready_task-found.ensures _ c.in_defaul
 pub returns : goal.returns
 returns c =
     c.with_priority.ensures
-    ∙ adds-bit _ _ c.ready_task-found.ensures c.in-Task.is c.current.ensures _
+    ∙ adds-bit _ _ c.ready_task-found.ensures c.in-Some.is c.current.ensures _

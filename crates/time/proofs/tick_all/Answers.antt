@@ -4,13 +4,14 @@ use borrow.Author.Rules.{rules}
 use Rattle.model.specs.Sizes.{tasks}
 use Rattle.time.proofs.Ticking.{ticking}
 use Rattle.act.proofs.Loop.{counted, counted-all, in-log-more, in-log-none}
+use Rattle.state.proofs.WordLaws.{long}
 use Rattle.time.proofs.tick_all.Goals as goal
 
 pub loop-n-init : goal.loop-n-init
-loop-n-init c = (ticking c.requires, omega arith)
+loop-n-init c = (ticking (long _ c.told-state), omega arith)
 
 pub tick_numbered-next-requires : goal.tick_numbered-next-requires
-tick_numbered-next-requires c = let i = c.loop-n.invariant in record { state_len = i.0.words; from = (search rules, search rules) }
+tick_numbered-next-requires c = let i = c.loop-n.invariant in ((search rules, search rules))
 
 pub loop-n-preserved : goal.loop-n-preserved
 loop-n-preserved c =

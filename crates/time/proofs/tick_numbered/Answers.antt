@@ -5,11 +5,11 @@ use Rattle.time.proofs.tick_numbered.Goals as goal
 
 pub returns-in_default : goal.returns-in_default
 returns-in_default c =
-    absurd (never-unnamed task_kind c.from_word-found.ensures c.requires.from.0
-    c.requires.from.1 c.in_default.is)
+    absurd (never-unnamed task_kind c.from_word-found.ensures c.requires.0
+    c.requires.1 c.in_default.is)
 
 pub returns : goal.returns
 returns c =
     ticks-numbered _ c.from_word-found.ensures
-    c.in-Task.is
+    c.in-Some.is
     c.tick_task.ensures

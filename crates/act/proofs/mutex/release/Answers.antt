@@ -14,7 +14,7 @@ returns c =
     releases-next
     c.word.ensures
     c.front-first.ensures
-    c.in-Task.is
+    c.in-Some.is
     c.word-2.ensures
     c.set_holder-2.ensures
     c.end_wait.ensures

@@ -1,5 +1,6 @@
 -- `rejoin` meets its contract: the queue goes by priority and current and base priority are equal, or nothing changes. Assumes nothing.
 use Rattle.act.proofs.Tasks.{rejoins, rejoins-not}
+use Rattle.state.proofs.WordLaws.{long}
 use Rattle.act.proofs.task.rejoin.Goals as goal
 
 pub returns-then-by_priority-current : goal.returns-then-by_priority-current
@@ -10,4 +11,4 @@ returns-else-by_priority-current c =
     rejoins-not _ _ c.place-place.ensures
     c.object-object.ensures c.current-current.ensures
     c.base-base.ensures c.by_priority.ensures
-    c.requires c.if-by_priority-current.false
+    (long _ c.told-state) c.if-by_priority-current.false

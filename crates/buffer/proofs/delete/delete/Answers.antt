@@ -2,10 +2,11 @@
 use mathlib.Core.Path.{◌∙◌}
 use Rattle.reply.proofs.Deletions.{put-down-tasks}
 use Rattle.buffer.proofs.Deleting.{ends-all}
+use Rattle.state.proofs.WordLaws.{long}
 use Rattle.buffer.proofs.delete.delete.Goals as goal
 
 pub end_both-requires : goal.end_both-requires
-end_both-requires c = record { state_len = c.strike_out.auto.state ∙ c.requires; tasks = search put-down-tasks; tasks_2 = search put-down-tasks }
+end_both-requires c = record { tasks = search put-down-tasks; tasks_2 = search put-down-tasks }
 
 pub returns : goal.returns
 returns c =

@@ -11,10 +11,10 @@ returns-in_default c =
 
 pub returns-then-exists-eq0 : goal.returns-then-exists-eq0
 returns-then-exists-eq0 c =
-    delete-missing buffer_kind _ _ (to_z-of_z c.ranges.buffer) c.from_field-found.ensures c.in-Buffer.is c.exists.ensures
+    delete-missing buffer_kind _ _ (to_z-of_z c.ranges.buffer) c.from_field-found.ensures c.in-Some.is c.exists.ensures
     c.if-exists-eq0.true
 
 pub returns : goal.returns
 returns c =
-    delete-allowed buffer_kind _ _ (to_z-of_z c.ranges.buffer) c.from_field-found.ensures c.in-Buffer.is c.exists.ensures
+    delete-allowed buffer_kind _ _ (to_z-of_z c.ranges.buffer) c.from_field-found.ensures c.in-Some.is c.exists.ensures
     c.if-exists-eq0.false

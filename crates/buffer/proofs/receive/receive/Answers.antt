@@ -13,5 +13,5 @@ returns-in_default c =
 
 pub returns : goal.returns
 returns c =
-    receives-sent _ _ _ c.used.ensures c.if-used-ne0.false c.word.ensures c.front-found.ensures c.in-Task.is
+    receives-sent _ _ _ c.used.ensures c.if-used-ne0.false c.word.ensures c.front-found.ensures c.in-Some.is
     c.receive_sent.ensures

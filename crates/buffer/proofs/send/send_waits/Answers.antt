@@ -2,8 +2,8 @@
 use Rattle.buffer.proofs.Sending.{waits-never, waits-unstored}
 use Rattle.buffer.proofs.send.send_waits.Goals as goal
 
-pub returns-in-Task : goal.returns-in-Task
-returns-in-Task c = search waits-never
+pub returns-in-Some : goal.returns-in-Task
+returns-in-Some c = search waits-never
 
-pub returns-in-Nothing : goal.returns-in-Nothing
-returns-in-Nothing c = search waits-unstored
+pub returns-in-None : goal.returns-in-None
+returns-in-None c = search waits-unstored

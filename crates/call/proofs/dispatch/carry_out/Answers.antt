@@ -3,9 +3,6 @@ use Rattle.model.specs.Effect.{perform}
 use Rattle.call.proofs.Dispatching.{made-carries, nobody-ticks, caller_runs, carries-for}
 use Rattle.call.proofs.dispatch.carry_out.Goals as goal
 
-pub tick-requires : goal.tick-requires
-tick-requires c = c.requires.allowed.words
-
 pub returns-in_default : goal.returns-in_default
 unfolding perform
 returns-in_default c =
@@ -14,10 +11,10 @@ returns-in_default c =
 
 pub perform_made-requires : goal.perform_made-requires
 perform_made-requires c =
-    let r = caller_runs _ c.requires.caller_value c.in-Task.is in
+    let r = caller_runs _ c.requires.caller_value c.in-Some.is in
     record { allowed = c.requires.allowed; caller_value = r.0; le_caller = r.1 }
 
 pub returns : goal.returns
 returns c =
-    carries-for (caller_runs _ c.requires.caller_value c.in-Task.is).0
+    carries-for (caller_runs _ c.requires.caller_value c.in-Some.is).0
     c.perform_made.ensures

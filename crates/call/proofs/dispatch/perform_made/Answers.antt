@@ -8,122 +8,100 @@ use Rattle.call.proofs.dispatch.perform_made.Goals as goal
 pub cre_tsk-requires : goal.cre_tsk-requires
 unfolding refusals
 cre_tsk-requires c =
-    record { state_len = c.requires.allowed.words; priority_value = made-allowed (one CreTsk _ c.in-CreTsk.is c.in-CreTsk.known_told-1-own.given.0.1) c.requires.allowed }
+    (made-allowed (one CreTsk _ c.in-CreTsk.is c.in-CreTsk.known_told-1-own.given.0.1) c.requires.allowed)
 
 pub del_tsk-requires : goal.del_tsk-requires
 unfolding refusals
 del_tsk-requires c =
-    record { state_len = c.requires.allowed.words; task_value = made-allowed (one DelTsk _ c.in-DelTsk.is c.in-DelTsk.known_told-in-DelTsk-1-own.given.0.1) c.requires.allowed }
+    (made-allowed (one DelTsk _ c.in-DelTsk.is c.in-DelTsk.known_told-in-DelTsk-1-own.given.0.1) c.requires.allowed)
 
 pub sta_tsk-requires : goal.sta_tsk-requires
 unfolding refusals
 sta_tsk-requires c =
-    record { state_len = c.requires.allowed.words; task_value = made-allowed (one StaTsk _ c.in-StaTsk.is c.in-StaTsk.known_told-in-StaTsk-1-own.given.0.1) c.requires.allowed }
+    (made-allowed (one StaTsk _ c.in-StaTsk.is c.in-StaTsk.known_told-in-StaTsk-1-own.given.0.1) c.requires.allowed)
 
 pub ext_tsk-requires : goal.ext_tsk-requires
 ext_tsk-requires c =
-    record { state_len = c.requires.allowed.words; caller_value = c.requires.caller_value }
+    c.requires.caller_value
 
 pub ter_tsk-requires : goal.ter_tsk-requires
 unfolding refusals
 ter_tsk-requires c =
-    record { state_len = c.requires.allowed.words; task_value = made-allowed (one TerTsk _ c.in-TerTsk.is c.in-TerTsk.known_told-in-TerTsk-1-own.given.0.1) c.requires.allowed }
+    (made-allowed (one TerTsk _ c.in-TerTsk.is c.in-TerTsk.known_told-in-TerTsk-1-own.given.0.1) c.requires.allowed)
 
 pub chg_pri-requires : goal.chg_pri-requires
 unfolding refusals
 chg_pri-requires c =
-    record {
-      state_len = c.requires.allowed.words;
-      caller_value = c.requires.caller_value;
-      le_caller = c.requires.le_caller;
-      priority_value = made-allowed (two ChgPri _ _ c.in-ChgPri.is c.in-ChgPri.known_told-in-ChgPri-1-own.given.0.1
-          c.in-ChgPri.known_told-in-ChgPri-1-own.given.1.0.1) c.requires.allowed;
-    }
+    record { caller_value = c.requires.caller_value; le_caller = c.requires.le_caller; priority_value = made-allowed (two ChgPri _ _ c.in-ChgPri.is c.in-ChgPri.known_told-in-ChgPri-1-own.given.0.1
+          c.in-ChgPri.known_told-in-ChgPri-1-own.given.1.0.1) c.requires.allowed }
 
 pub cre_mtx-requires : goal.cre_mtx-requires
 unfolding refusals
 cre_mtx-requires c =
-    record { state_len = c.requires.allowed.words; ceiling_value = made-allowed (two CreMtx _ _ c.in-CreMtx.is c.in-CreMtx.known_told-in-CreMtx-1-own.given.0.1 c.in-CreMtx.known_told-in-CreMtx-1-own.given.1.0.1) c.requires.allowed }
+    (made-allowed (two CreMtx _ _ c.in-CreMtx.is c.in-CreMtx.known_told-in-CreMtx-1-own.given.0.1 c.in-CreMtx.known_told-in-CreMtx-1-own.given.1.0.1) c.requires.allowed)
 
 pub del_mtx-requires : goal.del_mtx-requires
 unfolding refusals
 del_mtx-requires c =
-    record { state_len = c.requires.allowed.words; mutex_value = made-allowed (one DelMtx _ c.in-DelMtx.is c.in-DelMtx.known_told-in-DelMtx-1-own.given.0.1) c.requires.allowed }
+    (made-allowed (one DelMtx _ c.in-DelMtx.is c.in-DelMtx.known_told-in-DelMtx-1-own.given.0.1) c.requires.allowed)
 
 pub loc_mtx-requires : goal.loc_mtx-requires
 unfolding refusals
 loc_mtx-requires c =
     let v = made-valid c.requires.allowed in
     let free = made-allowed (two LocMtx _ _ c.in-LocMtx.is c.in-LocMtx.known_told-in-LocMtx-1-own.given.0.1 c.in-LocMtx.known_told-in-LocMtx-1-own.given.1.0.1) c.requires.allowed in
-    record { state_len = c.requires.allowed.words; caller_value = c.requires.caller_value; timeout_value = free; priorities = v.is_priorities; bitmap = v.is_bitmap; each = v.is_locking }
+    record { caller_value = c.requires.caller_value; timeout_value = free; priorities = v.is_priorities; bitmap = v.is_bitmap; each = v.is_locking }
 
 pub unl_mtx-requires : goal.unl_mtx-requires
 unfolding refusals
 unl_mtx-requires c =
     let v = made-valid c.requires.allowed in
-    record { state_len = c.requires.allowed.words; mutex_value = made-allowed (one UnlMtx _ c.in-UnlMtx.is c.in-UnlMtx.known_told-in-UnlMtx-1-own.given.0.1) c.requires.allowed; priorities = v.is_priorities; bitmap = v.is_bitmap; arrivals = v.is_arrivals }
+    record { mutex_value = made-allowed (one UnlMtx _ c.in-UnlMtx.is c.in-UnlMtx.known_told-in-UnlMtx-1-own.given.0.1) c.requires.allowed; priorities = v.is_priorities; bitmap = v.is_bitmap; arrivals = v.is_arrivals }
 
 pub cre_mbf-requires : goal.cre_mbf-requires
 unfolding refusals
 cre_mbf-requires c =
-    record {
-      state_len = c.requires.allowed.words;
-      maxmsz_value = made-allowed (three CreMbf _ _ _ c.in-CreMbf.is c.in-CreMbf.known_told-in-CreMbf-1-own.given.0.1 c.in-CreMbf.known_told-in-CreMbf-1-own.given.1.0.1
-          c.in-CreMbf.known_told-in-CreMbf-1-own.given.1.1.0.1) c.requires.allowed;
-    }
+    (made-allowed (three CreMbf _ _ _ c.in-CreMbf.is c.in-CreMbf.known_told-in-CreMbf-1-own.given.0.1 c.in-CreMbf.known_told-in-CreMbf-1-own.given.1.0.1
+          c.in-CreMbf.known_told-in-CreMbf-1-own.given.1.1.0.1) c.requires.allowed)
 
 pub del_mbf-requires : goal.del_mbf-requires
 unfolding refusals
 del_mbf-requires c =
-    record { state_len = c.requires.allowed.words; buffer_value = made-allowed (one DelMbf _ c.in-DelMbf.is c.in-DelMbf.known_told-in-DelMbf-1-own.given.0.1) c.requires.allowed }
+    (made-allowed (one DelMbf _ c.in-DelMbf.is c.in-DelMbf.known_told-in-DelMbf-1-own.given.0.1) c.requires.allowed)
 
 pub snd_mbf-requires : goal.snd_mbf-requires
 unfolding refusals
 snd_mbf-requires c =
-    record {
-      state_len = c.requires.allowed.words;
-      caller_value = c.requires.caller_value;
-      message_value = made-allowed (three SndMbf _ _ _ c.in-SndMbf.is c.in-SndMbf.known_told-in-SndMbf-1-own.given.0.1 c.in-SndMbf.known_told-in-SndMbf-1-own.given.1.0.1
-          c.in-SndMbf.known_told-in-SndMbf-1-own.given.1.1.0.1) c.requires.allowed;
-    }
+    record { caller_value = c.requires.caller_value; message_value = made-allowed (three SndMbf _ _ _ c.in-SndMbf.is c.in-SndMbf.known_told-in-SndMbf-1-own.given.0.1 c.in-SndMbf.known_told-in-SndMbf-1-own.given.1.0.1
+          c.in-SndMbf.known_told-in-SndMbf-1-own.given.1.1.0.1) c.requires.allowed }
 
 pub rcv_mbf-requires : goal.rcv_mbf-requires
 unfolding refusals
 rcv_mbf-requires c =
     let is = two RcvMbf _ _ c.in-RcvMbf.is c.in-RcvMbf.known_told-in-RcvMbf-1-own.given.0.1 c.in-RcvMbf.known_told-in-RcvMbf-1-own.given.1.0.1 in
-    record { state_len = c.requires.allowed.words; caller_value = c.requires.caller_value; timeout_value = made-allowed is c.requires.allowed; answerable = made-answerable is c.requires.allowed }
+    record { caller_value = c.requires.caller_value; timeout_value = made-allowed is c.requires.allowed; answerable = made-answerable is c.requires.allowed }
 
 pub cre_mpf-requires : goal.cre_mpf-requires
 unfolding refusals
 cre_mpf-requires c =
-    record {
-      state_len = c.requires.allowed.words;
-      size_value = made-allowed (three CreMpf _ _ _ c.in-CreMpf.is c.in-CreMpf.known_told-in-CreMpf-1-own.given.0.1 c.in-CreMpf.known_told-in-CreMpf-1-own.given.1.0.1
-          c.in-CreMpf.known_told-in-CreMpf-1-own.given.1.1.0.1) c.requires.allowed;
-    }
+    (made-allowed (three CreMpf _ _ _ c.in-CreMpf.is c.in-CreMpf.known_told-in-CreMpf-1-own.given.0.1 c.in-CreMpf.known_told-in-CreMpf-1-own.given.1.0.1
+          c.in-CreMpf.known_told-in-CreMpf-1-own.given.1.1.0.1) c.requires.allowed)
 
 pub del_mpf-requires : goal.del_mpf-requires
 unfolding refusals
 del_mpf-requires c =
-    record { state_len = c.requires.allowed.words; pool_value = made-allowed (one DelMpf _ c.in-DelMpf.is c.in-DelMpf.known_told-in-DelMpf-1-own.given.0.1) c.requires.allowed }
+    (made-allowed (one DelMpf _ c.in-DelMpf.is c.in-DelMpf.known_told-in-DelMpf-1-own.given.0.1) c.requires.allowed)
 
 pub get_mpf-requires : goal.get_mpf-requires
 unfolding refusals
 get_mpf-requires c =
-    record {
-      state_len = c.requires.allowed.words;
-      caller_value = c.requires.caller_value;
-      timeout_value = made-allowed (two GetMpf _ _ c.in-GetMpf.is c.in-GetMpf.known_told-in-GetMpf-1-own.given.0.1 c.in-GetMpf.known_told-in-GetMpf-1-own.given.1.0.1)
-          c.requires.allowed;
-    }
+    record { caller_value = c.requires.caller_value; timeout_value = made-allowed (two GetMpf _ _ c.in-GetMpf.is c.in-GetMpf.known_told-in-GetMpf-1-own.given.0.1 c.in-GetMpf.known_told-in-GetMpf-1-own.given.1.0.1)
+          c.requires.allowed }
 
 pub rel_mpf-requires : goal.rel_mpf-requires
 unfolding refusals
 rel_mpf-requires c =
-    record { state_len = c.requires.allowed.words; block_value = made-allowed (two RelMpf _ _ c.in-RelMpf.is c.in-RelMpf.known_told-in-RelMpf-1-own.given.0.1 c.in-RelMpf.known_told-in-RelMpf-1-own.given.1.0.1) c.requires.allowed }
-
-pub tick-requires : goal.tick-requires
-tick-requires c = c.requires.allowed.words
+    (made-allowed (two RelMpf _ _ c.in-RelMpf.is c.in-RelMpf.known_told-in-RelMpf-1-own.given.0.1 c.in-RelMpf.known_told-in-RelMpf-1-own.given.1.0.1) c.requires.allowed)
 
 pub returns-in-CreTsk : goal.returns-in-CreTsk
 unfolding perform

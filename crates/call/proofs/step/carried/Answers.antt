@@ -9,7 +9,7 @@ carry_out-answer-requires c =
 pub next_to_run-runs-requires : goal.next_to_run-runs-requires
 next_to_run-runs-requires c =
     let r = step-bits _ _ _ c.requires.ready c.requires.message_value c.carry_out-answer.ensures c.drain-end.ensures in
-    record { state_len = r.0; bitmap = r.1 }
+    r.1
 
 pub returns : goal.returns
 returns c =

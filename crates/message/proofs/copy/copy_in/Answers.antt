@@ -1,22 +1,18 @@
--- `copy_in` meets its contract. The loop's invariant says what is left to store; it ends at the end of the message or of the slice. Assumes nothing.
+-- `copy_in` meets its contract: it ends at the end of the message or of the slice. Assumes nothing.
 use native.Mathlib.Omega.{arith}
-use mathlib.Core.Path.{sym}
+use Prim.Native.Nat.{◌+◌, ◌-◌}
+use mathlib.Core.Path.{◌≡◌, ◌∙◌, sym}
 use lib.ListN.{take, length-take}
-use lib.Seq.{get_or-take}
-use Rattle.message.proofs.Stores.{left-all, left-turn, left-none, sets-out}
+use lib.Seq.{take-take}
+use Rattle.message.proofs.Stores.{sets-out, sets-part}
 use Rattle.message.proofs.copy.copy_in.Goals as goal
 
-pub loop-i-init : goal.loop-i-init
-loop-i-init c = (omega arith, left-all)
-
-pub loop-i-preserved : goal.loop-i-preserved
-loop-i-preserved c =
-    let l = c.loop-i in
+pub returns-then-at-r : goal.returns-then-at-r
+returns-then-at-r c =
     let a = c.args in
-    (omega arith, left-turn l.invariant.1 (simp length-take (omega arith)) (get_or-take a.n a.m.now l.i 0 (omega arith)))
-
-pub returns-after-loop-i : goal.returns-after-loop-i
-returns-after-loop-i c = left-none c.loop-i.invariant.1 (simp length-take (omega arith))
+    let count = c.min-count.result in
+    let e : a.at + count - a.at ≡ count = omega arith in
+    sets-part (take a.n a.m.now) a.r.now a.at _ (omega (arith, length-take a.n a.m.now)) (c.copy_from_slice.ensures.after ∙ rw e (sym (take-take count a.n a.m.now (omega arith))))
 
 pub returns-else-at-r : goal.returns-else-at-r
 returns-else-at-r c =

@@ -1,22 +1,20 @@
--- `fill_zero` meets its contract. The loop's invariant says what is left to store. Assumes nothing.
+-- `fill_zero` meets its contract: it ends at the end of the slice. Assumes nothing.
 use native.Mathlib.Omega.{arith}
-use mathlib.Core.Path.{sym}
-use lib.ListN.{length-replicate, get_or-replicate}
+use mathlib.Core.Path.{◌∙◌, sym, ap}
+use lib.ListN.{drop, length-drop, length-replicate}
+use lib.Seq.{length-take-le}
 use Rattle.model.specs.Lists.{zeros}
-use Rattle.message.proofs.Stores.{left-all, left-turn, left-none, sets-out}
+use Rattle.model.proofs.ListLaws.{take-zeros}
+use Rattle.message.proofs.Stores.{sets-out, sets-part}
 use Rattle.message.proofs.copy.fill_zero.Goals as goal
 
-pub loop-i-init : goal.loop-i-init
-loop-i-init c = (omega arith, left-all)
-
-pub loop-i-preserved : goal.loop-i-preserved
-loop-i-preserved c =
-    let l = c.loop-i in
+pub returns-then-at-r : goal.returns-then-at-r
+returns-then-at-r c =
     let a = c.args in
-    (omega arith, left-turn l.invariant.1 (simp length-replicate (omega arith)) (get_or-replicate a.n l.i 0 0 (omega arith)))
-
-pub returns-after-loop-i : goal.returns-after-loop-i
-returns-after-loop-i c = left-none c.loop-i.invariant.1 (simp length-replicate (omega arith))
+    sets-part (zeros a.n) a.r.now a.at _ (simp length-replicate (omega arith))
+    (c.fill.ensures.after (λ y e. e)
+    ∙ ap zeros (length-take-le _ (drop a.at a.r.now) (rw length-drop (omega arith)))
+    ∙ sym (take-zeros _ a.n (omega arith)))
 
 pub returns-else-at-r : goal.returns-else-at-r
 returns-else-at-r c =

@@ -5,4 +5,4 @@ use Rattle.message.proofs.Packing.{zeros-padded}
 use Rattle.message.proofs.outbox.outbox_clear.Goals as goal
 
 pub returns : goal.returns
-returns c = outbox-back c.args.outbox.now c.outbox_part-p.ensures [] (rw zeros-padded at c.clear.ensures)
+returns c = outbox-back c.args.outbox.now c.part_of-part.ensures [] (rw zeros-padded at c.clear.ensures)

@@ -6,4 +6,4 @@ use Rattle.message.proofs.outbox.outbox_put.Goals as goal
 pub returns : goal.returns
 returns c =
     let a = c.args in
-    outbox-back a.outbox.now c.outbox_part-p.ensures (take a.n a.m.now) c.fill.ensures
+    outbox-back a.outbox.now c.part_of-part.ensures (take a.n a.m.now) c.fill.ensures

@@ -9,4 +9,4 @@ pub returns : goal.returns
 returns c =
     let a = c.args in
     let m = take a.n a.m.now in
-    region-back a.store.now c.region_part-p.ensures (λ r. appended r a.used m) (λ r. length-appended r a.used m) c.append.ensures
+    region-back a.store.now c.part_of-part.ensures (λ r. appended r a.used m) (λ r. length-appended r a.used m) c.append.ensures

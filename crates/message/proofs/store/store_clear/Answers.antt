@@ -3,4 +3,4 @@ use Rattle.message.proofs.Parts.{region-cleared}
 use Rattle.message.proofs.store.store_clear.Goals as goal
 
 pub returns : goal.returns
-returns c = region-cleared c.args.store.now c.region_part-p.ensures c.clear.ensures
+returns c = region-cleared c.args.store.now c.part_of-part.ensures c.clear.ensures

@@ -3,4 +3,4 @@ use Rattle.message.proofs.Parts.{region-lent}
 use Rattle.message.proofs.store.store_region.Goals as goal
 
 pub returns : goal.returns
-returns c = region-lent c.args.store.now c.region_part-p.ensures
+returns c = region-lent c.args.store.now c.part_of.ensures

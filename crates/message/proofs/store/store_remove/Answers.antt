@@ -5,4 +5,4 @@ use Rattle.message.proofs.Packing.{length_removed}
 use Rattle.message.proofs.store.store_remove.Goals as goal
 
 pub returns : goal.returns
-returns c = region-back c.args.store.now c.region_part-p.ensures removed length_removed c.remove.ensures
+returns c = region-back c.args.store.now c.part_of-part.ensures removed length_removed c.remove.ensures

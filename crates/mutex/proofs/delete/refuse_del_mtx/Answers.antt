@@ -10,9 +10,9 @@ returns-in_default c = delete-numberless mutex_kind _ _ (to_z-of_z c.ranges.mute
 pub returns-then-exists-eq0 : goal.returns-then-exists-eq0
 returns-then-exists-eq0 c =
     delete-missing mutex_kind _ _ (to_z-of_z c.ranges.mutex)
-    c.from_field-found.ensures c.in-Mutex.is c.exists.ensures c.if-exists-eq0.true
+    c.from_field-found.ensures c.in-Some.is c.exists.ensures c.if-exists-eq0.true
 
 pub returns : goal.returns
 returns c =
     delete-allowed mutex_kind _ _ (to_z-of_z c.ranges.mutex)
-    c.from_field-found.ensures c.in-Mutex.is c.exists.ensures c.if-exists-eq0.false
+    c.from_field-found.ensures c.in-Some.is c.exists.ensures c.if-exists-eq0.false

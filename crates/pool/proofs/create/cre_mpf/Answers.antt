@@ -4,17 +4,18 @@ use mir.Facts.{to_z-of_z}
 use Rattle.model.proofs.NumberLaws.{pool_kind}
 use Rattle.reply.proofs.Creations.{new-fits}
 use Rattle.pool.proofs.Creating.{create-room, creates-pool}
+use Rattle.state.proofs.WordLaws.{long}
 use Rattle.pool.proofs.create.cre_mpf.Goals as goal
 
 pub returns-in_default : goal.returns-in_default
 returns-in_default c = absurd (search (create-room))
 
 pub answer_number-answer-requires : goal.answer_number-answer-requires
-answer_number-answer-requires c = new-fits pool_kind _ c.unused_pool-found.ensures (omega arith) c.in-Pool.is c.word.ensures
+answer_number-answer-requires c = new-fits pool_kind _ c.unused_pool-found.ensures (omega arith) c.in-Some.is c.word.ensures
 
 pub returns : goal.returns
 returns c =
-    creates-pool _ _ _ (to_z-of_z c.ranges.attribute) (to_z-of_z c.ranges.count) (to_z-of_z c.ranges.size) _ c.requires.state_len c.unused_pool-found.ensures
-    c.in-Pool.is c.word.ensures
+    creates-pool _ _ _ (to_z-of_z c.ranges.attribute) (to_z-of_z c.ranges.count) (to_z-of_z c.ranges.size) _ (long _ c.told-state) c.unused_pool-found.ensures
+    c.in-Some.is c.word.ensures
     c.answer_number-answer.ensures c.log_answer-next.ensures c.natural.ensures
     c.natural-2.ensures c.natural-3.ensures c.set_row.ensures

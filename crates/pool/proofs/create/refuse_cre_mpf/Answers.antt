@@ -16,17 +16,13 @@ returns-then-outside-2 c = search (create-size, to_z-of_z)
 pub returns-in_default : goal.returns-in_default
 returns-in_default c = search (create-full, to_z-of_z)
 
--- "before testing either": the product is asked for once both factors are in range
-pub bytes-more-requires : goal.bytes-more-requires
-bytes-more-requires c = record { count_value = sym c.outside.ensures ∙ c.if-outside.false; size_value = sym c.outside-2.ensures ∙ c.if-outside-2.false }
-
 -- The sum is tested with the new pool's bytes: the law is given what the test was asked, so that a test of something else is refused by that.
 pub returns-then-pools_exceed : goal.returns-then-pools_exceed
 returns-then-pools_exceed c =
     let fits = c.ranges in
     create-beyond _ _ _ _ (to_z-of_z fits.attribute) c.natural-a.ensures c.of_pool-allowed.ensures c.if-attribute-allowed.false
     (to_z-of_z fits.count) c.outside.ensures c.if-outside.false (to_z-of_z fits.size) c.outside-2.ensures c.if-outside-2.false
-    c.unused_pool-found.ensures c.in-Pool.is c.bytes-more.ensures c.pools_exceed.ensures c.if-pools_exceed.true
+    c.unused_pool-found.ensures c.in-Some.is c.bytes-more.ensures c.pools_exceed.ensures c.if-pools_exceed.true
 
 pub returns : goal.returns
 returns c = search (create-allowed, to_z-of_z)

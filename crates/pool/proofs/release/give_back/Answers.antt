@@ -10,5 +10,5 @@ returns-in_default c =
 
 pub returns : goal.returns
 returns c =
-    gives-next _ c.word.ensures c.front-first.ensures c.in-Task.is
+    gives-next _ c.word.ensures c.front-first.ensures c.in-Some.is
     c.end_wait_block.ensures

@@ -16,20 +16,20 @@ returns-in_default c = inside (search rules) (search rules) (mutex-none _ (sym c
 
 pub returns-then-holder-word : goal.returns-then-holder-word
 returns-then-holder-word c =
-    let mutex : ℕ = c.in-Mutex.m.0 in
-    let is-mutex : Names mutexes c.args.n (mutex) = mutex-there _ _ (sym c.from_word.ensures ∙ c.in-Mutex.is) in
+    let mutex : ℕ = c.in-Some.m.0 in
+    let is-mutex : Names mutexes c.args.n (mutex) = mutex-there _ _ (sym c.from_word.ensures ∙ c.in-Some.is) in
     not-holder _ (is-mutex) _ _ (λ q. c.if-holder-word.true (c.holder.ensures ∙ q ∙ sym c.word.ensures))
 
 pub returns-then-attribute-ne-CEILINGED : goal.returns-then-attribute-ne-CEILINGED
 returns-then-attribute-ne-CEILINGED c =
-    let mutex : ℕ = c.in-Mutex.m.0 in
-    let is-mutex : Names mutexes c.args.n (mutex) = mutex-there _ _ (sym c.from_word.ensures ∙ c.in-Mutex.is) in
+    let mutex : ℕ = c.in-Some.m.0 in
+    let is-mutex : Names mutexes c.args.n (mutex) = mutex-there _ _ (sym c.from_word.ensures ∙ c.in-Some.is) in
     not-ceilinged _ (is-mutex) _ _ (λ q. c.if-attribute-ne-CEILINGED.true (c.attribute.ensures ∙ q))
 
 pub returns-then-c-p : goal.returns-then-c-p
 returns-then-c-p c =
-    let mutex : ℕ = c.in-Mutex.m.0 in
-    let is-mutex : Names mutexes c.args.n (mutex) = mutex-there _ _ (sym c.from_word.ensures ∙ c.in-Mutex.is) in
+    let mutex : ℕ = c.in-Some.m.0 in
+    let is-mutex : Names mutexes c.args.n (mutex) = mutex-there _ _ (sym c.from_word.ensures ∙ c.in-Some.is) in
     let counts : let a = c.args in let k = kernel a.state.now in min a.p (k.mutexes.ceiling ! mutex) ≡ with_ceiling_of k a.t.0 a.n a.p = ceiling-held _ (is-mutex) _ _
     (sym c.holder.ensures ∙ c.if-holder-word.false ∙ c.word.ensures)
     (sym c.attribute.ensures ∙ c.if-attribute-ne-CEILINGED.false) in
@@ -37,8 +37,8 @@ returns-then-c-p c =
 
 pub returns-else-c-p : goal.returns-else-c-p
 returns-else-c-p c =
-    let mutex : ℕ = c.in-Mutex.m.0 in
-    let is-mutex : Names mutexes c.args.n (mutex) = mutex-there _ _ (sym c.from_word.ensures ∙ c.in-Mutex.is) in
+    let mutex : ℕ = c.in-Some.m.0 in
+    let is-mutex : Names mutexes c.args.n (mutex) = mutex-there _ _ (sym c.from_word.ensures ∙ c.in-Some.is) in
     let counts : let a = c.args in let k = kernel a.state.now in min a.p (k.mutexes.ceiling ! mutex) ≡ with_ceiling_of k a.t.0 a.n a.p = ceiling-held _ (is-mutex) _ _
     (sym c.holder.ensures ∙ c.if-holder-word.false ∙ c.word.ensures)
     (sym c.attribute.ensures ∙ c.if-attribute-ne-CEILINGED.false) in

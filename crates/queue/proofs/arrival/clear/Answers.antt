@@ -1,16 +1,14 @@
 -- `clear` meets its contract. The loop's invariant: the places passed are none's. Assumes nothing.
 use native.Mathlib.Omega.{arith}
 use Rattle.queue.proofs.ArrivingLaws.{clear-start, clear-more, clear-done}
+use Rattle.state.proofs.WordLaws.{long}
 use Rattle.queue.proofs.arrival.clear.Goals as goal
 
 -- GONE same_length : tie.Need-same-length invariant-loop decreases-loop
 -- same_length c = let g = c.before.loop.invariant in g.state.length ∙ sym g.start
 
 pub loop-i-init : goal.loop-i-init
-loop-i-init c = clear-start _ _ c.requires
-
-pub set_task-requires : goal.set_task-requires
-set_task-requires c = c.loop-i.invariant.state.length
+loop-i-init c = clear-start _ _ (long _ c.told-state)
 
 pub loop-i-smaller : goal.loop-i-smaller
 loop-i-smaller c = omega arith

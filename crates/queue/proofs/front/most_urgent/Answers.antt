@@ -9,7 +9,7 @@ use Rattle.model.specs.Kernel.{numbered, stands_in}
 use Rattle.model.specs.Words.{kernel}
 use Rattle.queue.specs.Better.{better}
 use Rattle.queue.proofs.Search.{best-more, best-end, best-of-all}
-use Rattle.state.proofs.WordLaws.{arrivals-long}
+use Rattle.state.proofs.WordLaws.{long, arrivals-long}
 use Rattle.queue.proofs.front.most_urgent.Invariants.{left}
 use Rattle.queue.proofs.front.most_urgent.Goals as goal
 
@@ -28,7 +28,7 @@ loop-i-preserved c =
     let l = c.loop-i in
     let e : c.best_with-best.result ≡ cond (p (k.arrivals ! l.i)) (better cur l.best (k.arrivals ! l.i)) l.best =
     c.best_with-best.ensures ∙ ap (λ (u : ℕ). cond (p u) (better cur l.best u) l.best) c.task.ensures in (
-      l.invariant.0 ∙ best-more p k.arrivals l.i cur l.best (omega (arith, arrivals-long a.state.now c.requires))
+      l.invariant.0 ∙ best-more p k.arrivals l.i cur l.best (omega (arith, arrivals-long a.state.now (long _ c.told-state)))
           ∙ ap (λ (n : ℕ). left a.state.now a.place a.object n (l.i + 1)) (sym e),
       omega arith,
     )
@@ -39,5 +39,5 @@ returns c =
     let k = kernel a.state.now in
     let q = queue a.place a.object in
     let l = c.loop-i in
-    sym (l.invariant.0 ∙ best-end (stands_in k q) k.arrivals l.i (numbered k.tasks.current) l.best (omega (arith, arrivals-long a.state.now c.requires)))
+    sym (l.invariant.0 ∙ best-end (stands_in k q) k.arrivals l.i (numbered k.tasks.current) l.best (omega (arith, arrivals-long a.state.now (long _ c.told-state))))
     ∙ best-of-all k q

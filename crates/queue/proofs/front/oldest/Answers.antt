@@ -6,7 +6,7 @@ use Rattle.model.specs.Facts.{queue}
 use Rattle.model.specs.Kernel.{stands_in}
 use Rattle.model.specs.Words.{kernel}
 use Rattle.queue.proofs.Search.{nobody-left, first-hit, first-miss}
-use Rattle.state.proofs.WordLaws.{arrivals-long}
+use Rattle.state.proofs.WordLaws.{long, arrivals-long}
 use Rattle.queue.proofs.front.oldest.Goals as goal
 
 pub loop-i-init : goal.loop-i-init
@@ -18,7 +18,7 @@ returns-then-stands_in c =
     let k = kernel a.state.now in
     let e = c.task-u.ensures in
     let s = ap (stands_in k (queue a.place a.object)) (sym e) ∙ sym c.stands_in.ensures ∙ c.if-stands_in.true in
-    e ∙ sym (c.loop-i.invariant.0 ∙ first-hit (stands_in k (queue a.place a.object)) k.arrivals c.loop-i.i (omega (arith, arrivals-long a.state.now c.requires)) s)
+    e ∙ sym (c.loop-i.invariant.0 ∙ first-hit (stands_in k (queue a.place a.object)) k.arrivals c.loop-i.i (omega (arith, arrivals-long a.state.now (long _ c.told-state))) s)
 
 pub loop-i-smaller : goal.loop-i-smaller
 loop-i-smaller c = omega arith
@@ -28,10 +28,10 @@ loop-i-preserved c =
     let a = c.args in
     let k = kernel a.state.now in
     let s = ap (stands_in k (queue a.place a.object)) (sym c.task-u.ensures) ∙ sym c.stands_in.ensures ∙ c.if-stands_in.false in
-    (c.loop-i.invariant.0 ∙ first-miss (stands_in k (queue a.place a.object)) k.arrivals c.loop-i.i (omega (arith, arrivals-long a.state.now c.requires)) s, omega arith)
+    (c.loop-i.invariant.0 ∙ first-miss (stands_in k (queue a.place a.object)) k.arrivals c.loop-i.i (omega (arith, arrivals-long a.state.now (long _ c.told-state))) s, omega arith)
 
 pub returns : goal.returns
 returns c =
     let a = c.args in
     let k = kernel a.state.now in
-    sym (c.loop-i.invariant.0 ∙ ap head_of (nobody-left (stands_in k (queue a.place a.object)) k.arrivals c.loop-i.i (omega (arith, arrivals-long a.state.now c.requires))))
+    sym (c.loop-i.invariant.0 ∙ ap head_of (nobody-left (stands_in k (queue a.place a.object)) k.arrivals c.loop-i.i (omega (arith, arrivals-long a.state.now (long _ c.told-state)))))

@@ -8,7 +8,7 @@ pub returns-in_default : goal.returns-in_default
 returns-in_default c = stands-nowhere _ _ _ _ (task-none _ (sym c.from_word-found.ensures ∙ c.in_default.is))
 
 pub returns-then-place : goal.returns-then-place
-returns-then-place c = stands-elsewhere _ _ _ _ _ (task-there _ _ (sym c.from_word-found.ensures ∙ c.in-Task.is)) _ c.place.ensures c.if-place.true
+returns-then-place c = stands-elsewhere _ _ _ _ _ (task-there _ _ (sym c.from_word-found.ensures ∙ c.in-Some.is)) _ c.place.ensures c.if-place.true
 
 pub returns : goal.returns
-returns c = stands-there _ _ _ _ _ (task-there _ _ (sym c.from_word-found.ensures ∙ c.in-Task.is)) _ _ c.place.ensures c.if-place.false c.object.ensures
+returns c = stands-there _ _ _ _ _ (task-there _ _ (sym c.from_word-found.ensures ∙ c.in-Some.is)) _ _ c.place.ensures c.if-place.false c.object.ensures

@@ -3,13 +3,14 @@ use native.Mathlib.Omega.{arith}
 use mathlib.Core.Path.{◌∙◌, refl, sym}
 use lib.Count.{trailing_le}
 use Rattle.queue.proofs.NextLaws.{search-start, search-done, look-start, look-more, look-done, look_hit}
+use Rattle.state.proofs.WordLaws.{long}
 use Rattle.queue.proofs.next.next_to_run.Goals as goal
 
 pub overflow_add-first : goal.overflow_add-first
 overflow_add-first c = omega (arith, trailing_le 32 c.bits.result)
 
 pub search-init : goal.search-init
-search-init c = (refl, search-start _ c.requires.state_len c.requires.bitmap _ c.bits.ensures)
+search-init c = (refl, search-start _ (long _ c.told-state) c.requires _ c.bits.ensures)
 
 pub loop-i-init : goal.loop-i-init
 loop-i-init c = (c.search.invariant.0, look-start _ _ c.search-test.true c.search.invariant.1)

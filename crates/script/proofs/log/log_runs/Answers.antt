@@ -4,4 +4,4 @@ use Rattle.script.proofs.log.log_runs.Goals as goal
 
 pub returns : goal.returns
 unfolding runs_bytes
-returns c = rw c.byte.ensures at c.put.ensures
+returns c = rw c.task_byte.ensures at c.put.ensures

@@ -1,30 +1,43 @@
 -- `message` meets its contract: the message lies behind the fields that the kind's row counts. Assumes nothing.
+use Prim.Native.Nat.{◌<◌, ◌≤◌}
 use native.Mathlib.Omega.{arith}
-use mathlib.Core.Path.{◌∙◌, sym}
+use mathlib.Core.Path.{◌≡◌, ◌∙◌, sym}
+use lib.ListN.{length}
+use Rattle.std.specs.Prelude.{Some, None}
+use Rattle.std.proofs.lemmas.Grind.{common_steps}
 use Rattle.model.specs.Lists.{◌!◌}
 use Rattle.model.specs.Record.{row_of}
+use Rattle.script.specs.Body.{body_parts}
 use Rattle.script.proofs.Rows.{KnownParts, row-of-parts, row-of-no-parts, fields_fit, body-short}
 use Rattle.script.proofs.Reading.{no-message-at-end, no-message-here, message-at, message-of-parts}
 use Rattle.script.proofs.reader.message.Goals as goal
 
-pub returns-then-script-at : goal.returns-then-script-at
-returns-then-script-at c = let a = c.args in c.part.ensures ∙ sym (no-message-at-end a.script.now a.c.at c.if-script-at.true)
-
 pub returns-in_default : goal.returns-in_default
 returns-in_default c =
     let a = c.args in
-    c.part-in_default.ensures
-    ∙ sym (message-at a.script.now a.c.at c.if-script-at.false
-    ∙ no-message-here a.c.at _ _ (row-of-no-parts _ (sym c.body_parts.ensures ∙ c.in_default.is)))
+    let end : length a.script.now ≤ a.c.at = grind (arith, common_steps) in
+    sym (no-message-at-end a.script.now a.c.at end)
 
-pub overflow_add-at-2 : goal.overflow_add-at-2
-overflow_add-at-2 c =
-    let found : KnownParts (row_of (c.args.script.now ! c.args.c.at)) c.in-Parts.fields c.in-Parts.message = row-of-parts _ _ _ (sym c.body_parts.ensures ∙ c.in-Parts.is) in
-    let r = found in
-    omega (arith, c.well_formed, c.if-script-at.false, r.fields, fields_fit _ r.row r.is, body-short _ r.row r.is)
+pub returns-in_default-body_parts : goal.returns-in_default-body_parts
+returns-in_default-body_parts c =
+    let a = c.args in
+    let inside : a.c.at < length a.script.now = grind (arith, common_steps) in
+    let unknown : body_parts (a.script.now ! a.c.at) ≡ None = grind (arith, common_steps) in
+    sym (message-at a.script.now a.c.at inside ∙ no-message-here a.c.at _ _ (row-of-no-parts _ unknown))
+
+pub overflow_add-c-2 : goal.overflow_add-c-2
+overflow_add-c-2 c =
+    let a = c.args in
+    let b = c.in-Some-body_parts.body in
+    let inside : a.c.at < length a.script.now = grind (arith, common_steps) in
+    let known : body_parts (a.script.now ! a.c.at) ≡ Some b = grind (arith, common_steps) in
+    let found : KnownParts (row_of (a.script.now ! a.c.at)) b.fields b.message = row-of-parts _ _ known in
+    omega (arith, c.well_formed, inside, found.fields, fields_fit _ found.row found.is, body-short _ found.row found.is)
 
 pub returns : goal.returns
 returns c =
-    let found : KnownParts (row_of (c.args.script.now ! c.args.c.at)) c.in-Parts.fields c.in-Parts.message = row-of-parts _ _ _ (sym c.body_parts.ensures ∙ c.in-Parts.is) in
     let a = c.args in
-    c.part-2.ensures ∙ message-of-parts a.script.now a.c.at _ _ c.if-script-at.false (found)
+    let b = c.in-Some-body_parts.body in
+    let inside : a.c.at < length a.script.now = grind (arith, common_steps) in
+    let known : body_parts (a.script.now ! a.c.at) ≡ Some b = grind (arith, common_steps) in
+    c.part.ensures ∙ message-of-parts a.script.now a.c.at _ _ inside (row-of-parts _ _ known)

@@ -10,7 +10,7 @@ returns-in_default c = search finds-nobody
 
 pub returns-then-room-lt0 : goal.returns-then-room-lt0
 returns-then-room-lt0 c =
-    finds-none _ _ c.word.ensures c.front-found.ensures c.in-Task.is c.used-used.ensures
+    finds-none _ _ c.word.ensures c.front-found.ensures c.in-Some.is c.used-used.ensures
     c.bufsz-bufsz.ensures c.argument-length.ensures c.room.ensures (to_z-of_z {w = w32} (sfits_of c.room.type_inv)) c.if-room-lt0.true
 
 pub returns : goal.returns

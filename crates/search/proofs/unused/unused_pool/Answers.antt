@@ -1,19 +1,7 @@
--- `unused_pool` meets its contract. The loop's invariant: the first free number is that of the pools still to be asked. Assumes nothing.
-use Rattle.model.proofs.NumberLaws.{pool_kind}
-use Rattle.search.proofs.Searches.{unused-all, unused-here, unused-later, unused-never, unused-none}
+-- `unused_pool` meets its contract: the first number whose entry is 0. Assumes nothing.
+use Rattle.model.specs.Act.{unused}
 use Rattle.search.proofs.unused.unused_pool.Goals as goal
 
-pub loop-n-init : goal.loop-n-init
-loop-n-init c = search unused-all
-
-pub returns-in_default : goal.returns-in_default
-returns-in_default c = search (unused-never pool_kind)
-
-pub returns-then-exists-eq0 : goal.returns-then-exists-eq0
-returns-then-exists-eq0 c = search (unused-here pool_kind)
-
-pub loop-n-preserved : goal.loop-n-preserved
-loop-n-preserved c = search (unused-later pool_kind)
-
 pub returns : goal.returns
-returns c = search (unused-none pool_kind)
+unfolding unused
+returns c = c.first.ensures

@@ -18,11 +18,11 @@ returns-then-place-eq-ABSENT c = search (change-missing, to_z-of_z)
 pub returns-then-above_any_ceiling : goal.returns-then-above_any_ceiling
 returns-then-above_any_ceiling c =
     change-above _ _ _ (to_z-of_z c.ranges.priority) c.outside.ensures c.if-outside.false (to_z-of_z c.ranges.task)
-    c.outside-2.ensures c.if-outside-2.false c.chosen_task-found.ensures c.in-Task.is c.place.ensures c.if-place-eq-ABSENT.false
+    c.outside-2.ensures c.if-outside-2.false c.chosen_task-found.ensures c.in-Some.is c.place.ensures c.if-place-eq-ABSENT.false
     c.chosen_base.ensures c.above_any_ceiling.ensures c.if-above_any_ceiling.true
 
 pub returns : goal.returns
 returns c =
     change-allowed _ _ _ (to_z-of_z c.ranges.priority) c.outside.ensures c.if-outside.false (to_z-of_z c.ranges.task)
-    c.outside-2.ensures c.if-outside-2.false c.chosen_task-found.ensures c.in-Task.is c.place.ensures c.if-place-eq-ABSENT.false
+    c.outside-2.ensures c.if-outside-2.false c.chosen_task-found.ensures c.in-Some.is c.place.ensures c.if-place-eq-ABSENT.false
     c.chosen_base.ensures c.above_any_ceiling.ensures c.if-above_any_ceiling.false

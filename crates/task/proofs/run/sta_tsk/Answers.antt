@@ -1,6 +1,7 @@
 -- `sta_tsk` meets its contract: the field names a task. Assumes nothing.
 use mir.Facts.{to_z-of_z}
 use Rattle.task.proofs.Creating.{dormant-named, starts}
+use Rattle.state.proofs.WordLaws.{long}
 use Rattle.task.proofs.run.sta_tsk.Goals as goal
 
 pub returns-in_default : goal.returns-in_default
@@ -8,5 +9,5 @@ returns-in_default c = absurd (search (dormant-named, to_z-of_z))
 
 pub returns : goal.returns
 returns c =
-    starts _ _ (to_z-of_z c.ranges.task) c.requires.state_len c.from_field-found.ensures c.in-Task.is c.arrive.ensures
+    starts _ _ (to_z-of_z c.ranges.task) (long _ c.told-state) c.from_field-found.ensures c.in-Some.is c.arrive.ensures
     c.log_answer.ensures

@@ -8,16 +8,17 @@ use Rattle.transfer.proofs.Serving.{left-drain}
 use Rattle.transfer.proofs.Sending.{drain-nothing}
 use mathlib.Core.Bool.{not}
 use mathlib.Core.Path.{ap}
+use Rattle.state.proofs.WordLaws.{long}
 use Rattle.transfer.proofs.drain.drain.Goals as goal
 
 pub returns-then-not-anyone_sends : goal.returns-then-not-anyone_sends
 returns-then-not-anyone_sends c = drain-nothing _ _ c.anyone_sends.ensures (ap not c.if-not-anyone_sends.true)
 
 pub loop-n-init : goal.loop-n-init
-loop-n-init c = (left-drain, search rules, c.requires, refl, refl, refl)
+loop-n-init c = (left-drain, search rules, (long _ c.told-state), refl, refl, refl)
 
 pub drain_numbered-next-requires : goal.drain_numbered-next-requires
-drain_numbered-next-requires c = record { state_len = c.loop-n.invariant.2; from = (search rules, search rules) }
+drain_numbered-next-requires c = ((search rules, search rules))
 
 pub loop-n-preserved : goal.loop-n-preserved
 loop-n-preserved c =

@@ -6,21 +6,22 @@ use Rattle.model.specs.Sizes.{tasks}
 use Rattle.search.proofs.Senders.{first-none}
 use Rattle.act.proofs.Loop.{left-all}
 use Rattle.transfer.proofs.Serving.{first-sender, serve-next, serve-none, serve-end}
+use Rattle.state.proofs.WordLaws.{long}
 use Rattle.transfer.proofs.drain.drain_buffer.Goals as goal
 
 pub loop-init : goal.loop-init
-loop-init c = (left-all, search rules, c.requires, refl, refl, refl)
+loop-init c = (left-all, search rules, (long _ c.told-state), refl, refl, refl)
 
 pub returns-in_default : goal.returns-in_default
 returns-in_default c = let l = c.loop in serve-none _ (tasks - l.counter) l.invariant.0 (search first-none)
 
 pub store_first-next-requires : goal.store_first-next-requires
-store_first-next-requires c = record { state_len = search rules; first_sender = search first-sender }
+store_first-next-requires c = (search first-sender)
 
 pub loop-preserved : goal.loop-preserved
 loop-preserved c =
     let l = c.loop in
-    let sender = first-sender _ _ c.first_fitting-found.ensures c.in-Task.is in
+    let sender = first-sender _ _ c.first_fitting-found.ensures c.in-Some.is in
     let left = serve-next _ l.counter (search rules) l.invariant.0 sender.fits c.store_first-next.ensures in
     (left, search rules, search rules, search rules, search rules, search rules)
 

@@ -4,9 +4,9 @@ use Rattle.transfer.proofs.Serving.{sender-fits, stores-first}
 use Rattle.transfer.proofs.drain.store_first.Goals as goal
 
 pub store_message-requires : goal.store_message-requires
-store_message-requires c = record { state_len = search rules; m_value = search sender-fits }
+store_message-requires c = (search sender-fits)
 
 pub returns : goal.returns
 returns c =
-    stores-first _ _ c.requires.first_sender c.argument-n.ensures
+    stores-first _ _ c.requires c.argument-n.ensures
     c.outbox_message-m.ensures c.store_message.ensures c.end_wait.ensures

@@ -1,14 +1,7 @@
--- `each_stands_once` meets its contract. The loop's invariant: the tasks still to be asked decide. Assumes nothing.
-use Prim.Native.Nat.{suc, ◌-◌}
-use Rattle.model.specs.Sizes.{tasks}
-use Rattle.model.proofs.NumberLaws.{task_kind}
-use Rattle.model.proofs.Loops.{AskedAll}
+-- What is asked of each number.
 use Rattle.model.specs.Words.{kernel}
 use Rattle.valid.specs.Parts.{stands_once}
 use Rattle.valid.proofs.arrival.each_stands_once.Given as goal
 
-abbrev pub invariant-loop-n : goal.invariant-loop-n
-invariant-loop-n l = AskedAll task_kind (stands_once (kernel l.state)) l.n
-
-abbrev pub decreases-loop-n : goal.decreases-loop-n
-decreases-loop-n l = suc tasks - l.n
+abbrev pub ghost-every : goal.ghost-every
+ghost-every a = stands_once (kernel a.test.0.now)

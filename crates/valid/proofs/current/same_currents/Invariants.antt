@@ -1,14 +1,7 @@
--- `same_currents` meets its contract. The loop's invariant: the tasks still to be asked decide. Assumes nothing.
-use Prim.Native.Nat.{suc, ◌-◌}
-use Rattle.model.specs.Sizes.{tasks}
-use Rattle.model.proofs.NumberLaws.{task_kind}
-use Rattle.model.proofs.Loops.{AskedAll}
+-- What is asked of each number.
 use Rattle.model.specs.Words.{kernel}
 use Rattle.valid.specs.Parts.{same_current}
 use Rattle.valid.proofs.current.same_currents.Given as goal
 
-abbrev pub invariant-loop-n : goal.invariant-loop-n
-invariant-loop-n l = AskedAll task_kind (same_current (kernel l.state) (kernel l.other)) l.n
-
-abbrev pub decreases-loop-n : goal.decreases-loop-n
-decreases-loop-n l = suc tasks - l.n
+abbrev pub ghost-every : goal.ghost-every
+ghost-every a = same_current (kernel a.test.0.now) (kernel a.test.1.now)

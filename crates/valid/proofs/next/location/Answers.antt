@@ -9,14 +9,8 @@ returns-then-not-is_valid c = search not_valid
 pub returns-in_default : goal.returns-in_default
 returns-in_default c = search (no_number, to_z-of_z)
 
-pub exists-requires : goal.exists-requires
-exists-requires c = search are_words
-
 pub returns-then-exists-eq0 : goal.returns-then-exists-eq0
 returns-then-exists-eq0 c = search (no_buffer, to_z-of_z)
-
-pub located-requires : goal.located-requires
-located-requires c = search are_words
 
 pub returns : goal.returns
 returns c = search (by-located, to_z-of_z)

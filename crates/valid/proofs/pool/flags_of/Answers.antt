@@ -5,9 +5,6 @@ use Rattle.valid.proofs.pool.flags_of.Goals as goal
 pub loop-b-init : goal.loop-b-init
 loop-b-init c = search lefts
 
-pub block_flag-requires : goal.block_flag-requires
-block_flag-requires c = search lefts
-
 pub returns-then-not-block_flag : goal.returns-then-not-block_flag
 returns-then-not-block_flag c = search lefts
 

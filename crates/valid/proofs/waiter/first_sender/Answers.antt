@@ -2,8 +2,8 @@
 use Rattle.valid.proofs.Waiters.{fits-first, fits-none}
 use Rattle.valid.proofs.waiter.first_sender.Goals as goal
 
-pub returns-in-Task : goal.returns-in-Task
-returns-in-Task c = fits-first _ _ c.first_fitting.ensures c.in-Task.is
+pub returns-in-Some : goal.returns-in-Task
+returns-in-Some c = fits-first _ _ c.first_fitting.ensures c.in-Some.is
 
-pub returns-in-Nothing : goal.returns-in-Nothing
-returns-in-Nothing c = fits-none _ _ c.first_fitting.ensures c.in-Nothing.is
+pub returns-in-None : goal.returns-in-None
+returns-in-None c = fits-none _ _ c.first_fitting.ensures c.in-None.is

@@ -1,14 +1,7 @@
--- `no_senders` meets its contract. The loop's invariant: the tasks still to be asked decide. Assumes nothing.
-use Prim.Native.Nat.{suc, ◌-◌}
-use Rattle.model.specs.Sizes.{tasks}
-use Rattle.model.proofs.NumberLaws.{task_kind}
-use Rattle.model.proofs.Loops.{AskedAll}
+-- What is asked of each number.
 use Rattle.model.specs.Words.{kernel}
 use Rattle.valid.specs.Parts.{no_sender}
 use Rattle.valid.proofs.waiter.no_senders.Given as goal
 
-abbrev pub invariant-loop-n : goal.invariant-loop-n
-invariant-loop-n l = AskedAll task_kind (no_sender (kernel l.state) l.b) l.n
-
-abbrev pub decreases-loop-n : goal.decreases-loop-n
-decreases-loop-n l = suc tasks - l.n
+abbrev pub ghost-every : goal.ghost-every
+ghost-every a = no_sender (kernel a.test.0.now) a.test.1

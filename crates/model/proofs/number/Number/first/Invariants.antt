@@ -1,0 +1,8 @@
+-- The numbers that are left decide.
+use Rattle.std.proofs.Common.{◌≡◌, ◌+◌}
+use Rattle.model.specs.Lists.{first_where, up_to}
+use Rattle.model.proofs.Rest.{numbers}
+use Rattle.model.proofs.number.Number.first.Given as goal
+
+abbrev pub invariant-loop-n : goal.invariant-loop-n
+invariant-loop-n g l = first_where g.p (up_to g.K.Object.LAST) ≡ first_where g.p (numbers g.K.Object.LAST (l.n + 1))
