@@ -15,6 +15,7 @@ use state::layout::Words;
 use state::task::{ABSENT, DORMANT, GETTING, LOCKING, READY, RECEIVING, SENDING};
 
 // "1 running, 2 ready, 4 waiting, 16 dormant".
+#[tactic(auto, unfolding(crate::specs::Rows::task_state))]
 fn task_state(state: &Words, t: TaskNumber) -> u32
     requires { Bitmap (kernel state.now) }
     ensures { result ≡ task_state (kernel state.now) t.0 }
@@ -34,6 +35,7 @@ fn task_state(state: &Words, t: TaskNumber) -> u32
 }
 
 // The kind of the call that created what the task waits for, 0 if it does not wait.
+#[tactic(auto, unfolding(crate::specs::Rows::awaited_kind))]
 fn awaited_kind(state: &Words, t: TaskNumber) -> u32
     ensures { result ≡ awaited_kind (kernel state.now) t.0 }
 {
@@ -48,6 +50,7 @@ fn awaited_kind(state: &Words, t: TaskNumber) -> u32
 }
 
 // "-1 for endless". No wait of a valid state has more milliseconds left than a field can hold.
+#[tactic(auto, unfolding(crate::specs::Rows::shown_time))]
 fn shown_time(left: u32) -> i32
     requires { TimeFits left }
     ensures { result ≡ shown_time left }
