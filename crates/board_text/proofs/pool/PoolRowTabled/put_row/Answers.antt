@@ -2,7 +2,7 @@
 use Rattle.script.proofs.Appending.{wrote-more}
 use Rattle.board_text.specs.Tables.{pool_table}
 use Rattle.board_text.proofs.Cells.{last-cell}
-use Rattle.board_text.proofs.pool.put_row.Goals as goal
+use Rattle.board_text.proofs.pool.PoolRowTabled.put_row.Goals as goal
 
 pub returns : goal.returns
 unfolding pool_table
