@@ -77,8 +77,8 @@ module _ {R : Type 0} {t : Table R} {rows : List R} {text₀ text : List ℕ} {a
 -- ---- a line that stands only where none is there yet
 
 module _ {text : List ℕ} {at : ℕ} (line : List ℕ) {there : Bool} where
-  pub there-already : there ≡ true → Appends text at (unless there line) text at
-  there-already e = rw e (none text at)
+  pub there_already : there ≡ true → Appends text at (unless there line) text at
+  there_already e = rw e (none text at)
 
   pub not_there : {after : List ℕ} {next : ℕ} → there ≡ false → Appends text at line after next → Appends text at (unless there line) after next
   not_there e p = rw e p

@@ -28,6 +28,7 @@ pub(crate) trait Tabled: Copy {
 }
 
 // A line that stands only where none is there yet.
+#[tactic(auto, using(crate::proofs::Rows::not_there))]
 fn put_unless(text: &mut [u8], at: usize, any: bool, line: &[u8]) -> usize
     ensures { Appends text.old at (unless any line.now) text.new result }
 {
