@@ -20,6 +20,7 @@ pub fn fill_board<R: Row>(
     if !is_valid(state, store, outbox) {
         return Err(Error::Sys);
     }
+    // a valid state has as many words
     let Some(words) = state.as_array() else {
         return Err(Error::Sys);
     };
@@ -42,7 +43,7 @@ pub fn answer(filled: Result<(), Error>) -> i32
     ensures { result ≡ answer_code filled }
 {
     match filled {
-        Ok(()) => E_OK,
+        Ok(_) => E_OK,
         Err(e) => e.code(),
     }
 }

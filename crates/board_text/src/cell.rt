@@ -7,6 +7,7 @@ use script::place::put;
 use status::row::{TTS_DMT, TTS_RDY, TTS_RUN, TTS_WAI};
 use text::number::{put_number, put_signed};
 
+// Kinds and states are numbers here, as in the rows, which C sees.
 const MUTEX: u32 = CRE_MTX as u32;
 
 const BUFFER: u32 = CRE_MBF as u32;

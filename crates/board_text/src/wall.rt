@@ -12,7 +12,8 @@ use script::place::put;
 use status::row::{BufferRow, MutexRow, PoolRow, TaskRow};
 use text::turn::turn_text;
 
-// The four tables, an empty line between them.
+// The four tables, an empty line between them. They stay four parameters, each as `board::table` gives it: docs/WALL.md names
+// `put_wall`, and these two functions alone take them.
 pub fn put_tables(
     text: &mut [u8],
     at: usize,

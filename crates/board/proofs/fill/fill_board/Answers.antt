@@ -1,7 +1,7 @@
 -- `fill_board` meets its contract: the refusals leave the table; else each turn writes an object's row or leaves it. Assumes nothing.
 use Prim.Native.Nat.{suc, ◌<◌}
 use native.Mathlib.Omega.{arith}
-use mathlib.Core.Path.{◌≡◌, ◌∙◌, refl, sym}
+use mathlib.Core.Path.{◌≡◌, refl}
 use lib.ListN.{length}
 use borrow.Author.Rules.{rules}
 use borrow.Author.Tests.{lt-ltb, le-ltb}
@@ -19,7 +19,7 @@ returns-then-not-is_valid g c = rw (← c.is_valid.ensures, c.if-not-is_valid.tr
 
 pub returns-in_default : goal.returns-in_default
 unfolding sizes
-returns-in_default g c = absurd (c.in_default.ensures.cases (asked-words _ c.args.store.now c.args.outbox.now (sym c.is_valid.ensures ∙ c.if-not-is_valid.false)))
+returns-in_default g c = absurd (c.in_default.ensures.cases (asked-words _ c.args.store.now c.args.outbox.now (rw c.is_valid.ensures at c.if-not-is_valid.false)))
 
 pub returns-then-rows-LAST : goal.returns-then-rows-LAST
 unfolding board_of
@@ -36,7 +36,7 @@ pub row-requires : goal.row-requires
 row-requires g c =
     let number : Names g.R.Of.Object.LAST _ c.in-Some-from_word.n.0 = named (number_kind _ g.R.Of.Object.LAST) c.from_word.ensures c.in-Some-from_word.is in
     let same = c.in-Some.ensures.cases.same in
-    (rw same (sym c.is_valid.ensures ∙ c.if-not-is_valid.false), omega (arith, number), omega (arith, number), sym c.exists.ensures ∙ c.if-exists.true)
+    (rw (same, ← c.is_valid.ensures) c.if-not-is_valid.false, omega (arith, number), omega (arith, number), rw c.exists.ensures at c.if-exists.true)
 
 pub offset_bounds-rows-i : goal.offset_bounds-rows-i
 offset_bounds-rows-i g c = let h : c.loop-i.i < length c.args.rows.now = omega (arith, c.loop-i-test.true, c.LAST-i-end.ensures, c.LAST.ensures, c.if-rows-LAST.false) in search rules
