@@ -1,10 +1,10 @@
 -- Bytes looked at where they lie: parts of a slice, zeros, and a task's part of the outbox. Assumes nothing.
-use Prim.Native.Nat.{ℕ, ◌+◌, ◌-◌, ◌≤◌, ◌<◌, min}
+use Prim.Native.Nat.{ℕ, ◌+◌, ◌≤◌, ◌<◌}
 use native.Mathlib.Omega.{arith}
 use mathlib.Core.Path.{◌≡◌, ◌∙◌, sym}
 use mathlib.Core.Bool.{Bool, true, ◌&&◌, and-true, and_assoc}
 use mathlib.Core.List.{List}
-use lib.ListN.{length, take, drop, length-take, length-drop}
+use lib.ListN.{length, drop, length-take}
 use lib.Seq.{take_all}
 use lib.Dec.{eqb}
 use Rattle.model.specs.Sizes.{message_bytes}
@@ -14,16 +14,6 @@ use Rattle.model.specs.Message.{part, outbox_message}
 use Rattle.model.specs.Valid.{outbox_part}
 use Rattle.model.proofs.ListLaws.{eqb-sym}
 use Rattle.model.proofs.Loops.{Over, over-all, over-more, over_done}
-use Rattle.message.proofs.Parts.{take_min, drop_min}
-
--- ---- the first bytes of a slice, and those behind them
-
-module _ (n : ℕ) (l : List ℕ) (k : ℕ) (e : k ≡ min n (length l)) where
-  pub first_part : take k l ≡ take n l
-  first_part = rw e (take_min n l)
-
-  pub behind-part : take (length l - k) (drop k l) ≡ drop n l
-  behind-part = take_all (length l - k) (drop k l) (rw length-drop (omega arith)) ∙ rw e (drop_min n l)
 
 -- ---- only zeros: whether the first i bytes are is known, and the others decide
 

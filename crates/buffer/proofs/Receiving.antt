@@ -1,5 +1,7 @@
 -- rcv_mbf, in the order of the code's steps.
-use Rattle.std.specs.Prelude.{None, Option, Some}
+use Rattle.std.proofs.Math.Option.{some, Option}
+use Rattle.std.specs.Prelude as code
+use Rattle.std.specs.Prelude.{None, Some}
 use Rattle.model.proofs.Terms.{ℕ, ◌≤◌, arith, ◌≡◌, ◌∙◌, refl, sym, ◌≢◌, Bool, true, false, none, List, [], ◌∷◌, length, length-take, ℤ, pos, eq-eqb, ne_eqb, buffers, message_bytes, ◌!◌, E_OK, E_PAR, E_ID, E_NOEXS, E_TMOUT, number, sending, receiving, queue, Kernel, queue_front, running, World, Nothing, Message, oldest_length, oldest, part, region, outbox_message, wait, end_wait, senders_message, bad_timeout, bad_number, no_such, no_time, receive_waits, rcv_mbf_refusals, Refusal, first_refusal, take_oldest, rcv_mbf, kernel, word_count, answer_bytes, delivery_bytes, Areas}
 use Rattle.model.specs.Number.{field_number, maybe_task, maybe_buffer, BufferNumber, TaskNumber}
 use Rattle.model.specs.declared.call.Answer.{Answer}
@@ -8,10 +10,8 @@ use Rattle.model.proofs.NumberLaws.{buffer_kind, task-is, task-is-none}
 use Rattle.script.specs.Place.{Appends}
 use Rattle.script.proofs.Appending.{wrote, wrote-more}
 use Rattle.act.specs.Held.{areas, DoesInWords, DoesInStore, DoesInLog}
-use Rattle.reply.specs.declared.Verdict.{Verdict}
-use Rattle.reply.specs.declared.Verdict.TheVariants.{Allowed, Refused}
 use Rattle.reply.specs.declared.Reply.{Reply}
-use Rattle.reply.specs.Replies.{verdict, lent_world, Carries, CarriesInWords, CarriesInStore, CarriesInLog}
+use Rattle.reply.specs.Replies.{lent_world, Carries, CarriesInWords, CarriesInStore, CarriesInLog}
 use Rattle.reply.proofs.Refusing.{numbered, never-unnumbered, number-refused, missing-refused, there-later}
 use Rattle.reply.proofs.Replying.{answer-alone, carried-in-words, carried-in-store, carried-in-log, carries-as, in-log-as}
 use Rattle.reply.proofs.Conditions.{timeout-refused, timeout-later, time-refused, time-later}
@@ -25,7 +25,7 @@ module _ (k : Kernel) (b : ℕ) {u : ℕ} (u-is : u ≡ k.buffers.used ! b) wher
   unfolding receive_waits
   waits-stored d = rw (← u-is, ne_eqb u 0 d)
 
-  module _ (empty : u ≡ 0) {n : ℕ} (n-is : n ≡ b) {found : Option TaskNumber} (from : found ≡ maybe_task (queue_front k (queue sending n))) where
+  module _ (empty : u ≡ 0) {n : ℕ} (n-is : n ≡ b) {found : code.Option TaskNumber} (from : found ≡ maybe_task (queue_front k (queue sending n))) where
     pub waits-sent : {t : TaskNumber} → found ≡ Some t → false ≡ receive_waits k b
     unfolding receive_waits
     waits-sent e = rw (← u-is, empty, ne_eqb (queue_front k (queue sending b)) 0 (rw n-is at (task-is _ _ (sym from ∙ e)).1))
@@ -43,40 +43,40 @@ module _ (k : Kernel) (buffer timeout : ℤ) where
   abbrev named : List Refusal
   named = bad_number buffers buffer ∷ no_such k.buffers.exists buffer ∷ late ∷ []
 
-  abbrev Answers : Verdict → Type 0
-  Answers v = v ≡ verdict (first_refusal (rcv_mbf_refusals k buffer timeout))
+  abbrev Answers : Option ℤ → Type 0
+  Answers v = v ≡ first_refusal (rcv_mbf_refusals k buffer timeout)
 
   module _ {a : ℤ} (a-is : a ≡ timeout) {r : Bool} (r-is : r ≡ (bad_timeout a).applies) where
-    pub receive-timeout : r ≡ true → Answers (Refused E_PAR)
+    pub receive-timeout : r ≡ true → Answers (some E_PAR)
     unfolding rcv_mbf_refusals
     receive-timeout e = timeout-refused timeout a-is r-is named e
 
-    module _ (fine : r ≡ false) {x : ℤ} (x-is : x ≡ buffer) {found : Option BufferNumber} (from : found ≡ maybe_buffer (field_number x buffers)) where
+    module _ (fine : r ≡ false) {x : ℤ} (x-is : x ≡ buffer) {found : code.Option BufferNumber} (from : found ≡ maybe_buffer (field_number x buffers)) where
       made : found ≡ maybe_buffer (field_number buffer buffers)
       made = rw x-is at from
 
-      after-timeout : {v : Verdict} → v ≡ verdict (first_refusal named) → Answers v
+      after-timeout : {v : Option ℤ} → v ≡ first_refusal named → Answers v
       unfolding rcv_mbf_refusals
       after-timeout f = timeout-later timeout a-is r-is named fine f
 
-      pub receive-numberless : found ≡ None → Answers (Refused E_ID)
+      pub receive-numberless : found ≡ None → Answers (some E_ID)
       receive-numberless e = after-timeout (number-refused buffer_kind buffer made (no_such k.buffers.exists buffer ∷ late ∷ []) e)
 
-      module _ {b : BufferNumber} (some : found ≡ Some b) {v : ℕ} (v-is : v ≡ k.buffers.exists ! b.0) where
-        pub receive-missing : v ≡ 0 → Answers (Refused E_NOEXS)
-        receive-missing e = after-timeout (missing-refused buffer_kind buffer made k.buffers.exists (late ∷ []) some v-is e)
+      module _ {b : BufferNumber} (is-some : found ≡ Some b) {v : ℕ} (v-is : v ≡ k.buffers.exists ! b.0) where
+        pub receive-missing : v ≡ 0 → Answers (some E_NOEXS)
+        receive-missing e = after-timeout (missing-refused buffer_kind buffer made k.buffers.exists (late ∷ []) is-some v-is e)
 
         module _ (there : v ≢ 0) {w : Bool} (w-is : w ≡ receive_waits k b.0) {u : Bool} (u-is : u ≡ (no_time a w).applies) where
           waits-is : w ≡ receive_waits k (number buffer)
-          waits-is = rw (numbered buffer_kind buffer made some).1 w-is
+          waits-is = rw (numbered buffer_kind buffer made is-some).1 w-is
 
-          lately : {v : Verdict} → v ≡ verdict (first_refusal (late ∷ [])) → Answers v
-          lately f = after-timeout (there-later buffer_kind buffer made k.buffers.exists (late ∷ []) some v-is there f)
+          lately : {v : Option ℤ} → v ≡ first_refusal (late ∷ []) → Answers v
+          lately f = after-timeout (there-later buffer_kind buffer made k.buffers.exists (late ∷ []) is-some v-is there f)
 
-          pub receive-late : u ≡ true → Answers (Refused E_TMOUT)
+          pub receive-late : u ≡ true → Answers (some E_TMOUT)
           receive-late e = lately (time-refused timeout (receive_waits k (number buffer)) a-is waits-is u-is [] e)
 
-          pub receive-allowed : u ≡ false → Answers Allowed
+          pub receive-allowed : u ≡ false → Answers none
           receive-allowed e = lately (time-later timeout (receive_waits k (number buffer)) a-is waits-is u-is [] e refl)
 
 -- ---- what it does, by case
@@ -140,7 +140,7 @@ module _ (caller b : ℕ) (timeout : ℤ) {s st o log s' log' : List ℕ} {at : 
       → Carries caller (λ w. rcv_mbf w b timeout) (areas s st o log) at (areas s' st' o log') x
   receives-stored d f = carries-as caller (receive-oldest (lent_world (areas s st o log)) b timeout (λ q. d (u-is ∙ q))) (f.carries o)
 
-  module _ (empty : u ≡ 0) {n : ℕ} (n-is : n ≡ b) {found : Option TaskNumber} (from : found ≡ maybe_task (queue_front (kernel s) (queue sending n))) where
+  module _ (empty : u ≡ 0) {n : ℕ} (n-is : n ≡ b) {found : code.Option TaskNumber} (from : found ≡ maybe_task (queue_front (kernel s) (queue sending n))) where
     pub receives-sent : {t : TaskNumber} {o' : List ℕ} → found ≡ Some t
         → CarriesInLog caller (received_sent t.0) s o log at s' o' log' x
         → Carries caller (λ w. rcv_mbf w b timeout) (areas s st o log) at (areas s' st o' log') x
@@ -156,14 +156,14 @@ module _ (caller b : ℕ) (timeout : ℤ) {s st o log s' log' : List ℕ} {at : 
         (receive-nothing (lent_world (areas s st o log)) b timeout (sym u-is ∙ empty) (rw n-is at (task-is-none _ (sym from ∙ e))) ∙ rw (runs, t-is))
         (f.carries st o)
 
-module _ (buffer : ℤ) {x : ℤ} (x-is : x ≡ buffer) {found : Option BufferNumber} (from : found ≡ maybe_buffer (field_number x buffers)) where
+module _ (buffer : ℤ) {x : ℤ} (x-is : x ≡ buffer) {found : code.Option BufferNumber} (from : found ≡ maybe_buffer (field_number x buffers)) where
   pub receive-named : (k : Kernel) (timeout : ℤ) → first_refusal (rcv_mbf_refusals k buffer timeout) ≡ none → found ≡ None → ⊥
   unfolding rcv_mbf_refusals bad_number
   receive-named k timeout e g = never-unnumbered buffer_kind buffer (rw x-is at from) (rcv_mbf_refusals k buffer timeout) 1 e refl g
 
-  module _ {b : BufferNumber} (some : found ≡ Some b) where
+  module _ {b : BufferNumber} (is-some : found ≡ Some b) where
     is-buffer : number buffer ≡ b.0
-    is-buffer = (numbered buffer_kind buffer (rw x-is at from) some).1
+    is-buffer = (numbered buffer_kind buffer (rw x-is at from) is-some).1
 
     pub receive-answerable : {st : List ℕ} → Answerable (number buffer) st → Answerable b.0 st
     receive-answerable a = rw is-buffer at a

@@ -1,5 +1,7 @@
 -- snd_mbf, in the order of the code's steps.
-use Rattle.std.specs.Prelude.{None, Option, Some}
+use Rattle.std.proofs.Math.Option.{some, Option}
+use Rattle.std.specs.Prelude as code
+use Rattle.std.specs.Prelude.{None, Some}
 use Rattle.model.proofs.Terms.{ℕ, ◌≤◌, ◌<◌, min, arith, ◌≡◌, ◌∙◌, refl, sym, ap, ◌≢◌, Bool, true, false, ◌&&◌, not, none, List, [], ◌∷◌, ◌++◌, length, take, drop, length-take, ℤ, pos, negsuc, lt_z, le_z, eq-eqb, ne_eqb, lt-ltb, le-ltb, not-true, not-false, buffers, message_bytes, ◌!◌, zeros, all_zero, E_OK, E_PAR, E_ID, E_NOEXS, E_TMOUT, saturated, number, sending, receiving, queue, Kernel, with_outbox, queue_front, heads_queue, running, Nothing, Message, handed, room, with_outbox_message, wait, end_wait, fits, store_message, bad_timeout, dirty_tail, bad_number, no_such, no_time, outside, storable, send_waits, snd_mbf_refusals, Refusal, refuse, first_refusal, snd_mbf, kernel, word_count, answer_bytes, Areas}
 use mathlib.Core.Bool.{and-eq-true_iff}
 use lib.Seq.{take_all, take-take, take-append-le}
@@ -14,10 +16,8 @@ use Rattle.script.specs.Place.{Appends, placed}
 use Rattle.script.proofs.Padding.{padded-placed}
 use Rattle.act.specs.Held.{areas, DoesInWords, DoesInStore, DoesInLog}
 use Rattle.act.proofs.Doing.{does}
-use Rattle.reply.specs.declared.Verdict.{Verdict}
-use Rattle.reply.specs.declared.Verdict.TheVariants.{Allowed, Refused}
 use Rattle.reply.specs.declared.Reply.{Reply}
-use Rattle.reply.specs.Replies.{verdict, lent_world, Carries, CarriesInStore, CarriesInLog}
+use Rattle.reply.specs.Replies.{lent_world, Carries, CarriesInStore, CarriesInLog}
 use Rattle.reply.proofs.Refusing.{refused-here, refused-later, numbered, never-unnumbered, number-refused, missing-refused, there-later}
 use Rattle.reply.proofs.Replying.{answer-alone, carried-in-store, carried-in-log, carries-as}
 use Rattle.reply.proofs.Conditions.{timeout-refused, timeout-later, time-refused, time-later}
@@ -43,7 +43,7 @@ pub storable-fits : (k : Kernel) (b n : ℕ) → storable k b n ≡ true → fit
 unfolding storable
 storable-fits k b n e = ((and-eq-true_iff (heads_queue k (queue sending b) (running k)) (fits k b n)).0 e).1
 
-module _ (k : Kernel) (b n : ℕ) {x : ℕ} (x-is : x ≡ b) {found : Option TaskNumber} (from : found ≡ maybe_task (queue_front k (queue receiving x))) where
+module _ (k : Kernel) (b n : ℕ) {x : ℕ} (x-is : x ≡ b) {found : code.Option TaskNumber} (from : found ≡ maybe_task (queue_front k (queue receiving x))) where
   pub waits-never : {t : TaskNumber} → found ≡ Some t → false ≡ send_waits k b n
   unfolding send_waits
   waits-never e = rw (ne_eqb (queue_front k (queue receiving b)) 0 (rw x-is at (task-is _ _ (sym from ∙ e)).1))
@@ -88,75 +88,75 @@ module _ (k : Kernel) (buffer msgsz timeout : ℤ) (bytes : List ℕ) where
   abbrev named : List Refusal
   named = bad_number buffers buffer ∷ no_such k.buffers.exists buffer ∷ long ∷ late ∷ []
 
-  abbrev Answers : Verdict → Type 0
-  Answers v = v ≡ verdict (first_refusal (snd_mbf_refusals k buffer msgsz timeout bytes))
+  abbrev Answers : Option ℤ → Type 0
+  Answers v = v ≡ first_refusal (snd_mbf_refusals k buffer msgsz timeout bytes)
 
   module _ {a : ℤ} (a-is : a ≡ timeout) {r : Bool} (r-is : r ≡ (bad_timeout a).applies) where
-    pub send-timeout : r ≡ true → Answers (Refused E_PAR)
+    pub send-timeout : r ≡ true → Answers (some E_PAR)
     unfolding snd_mbf_refusals
     send-timeout e = timeout-refused timeout a-is r-is (empty ∷ dirty ∷ named) e
 
     module _ (fine : r ≡ false) {l : ℤ} (l-is : l ≡ msgsz) where
-      after-timeout : {v : Verdict} → v ≡ verdict (first_refusal (empty ∷ dirty ∷ named)) → Answers v
+      after-timeout : {v : Option ℤ} → v ≡ first_refusal (empty ∷ dirty ∷ named) → Answers v
       unfolding snd_mbf_refusals
       after-timeout f = timeout-later timeout a-is r-is (empty ∷ dirty ∷ named) fine f
 
-      pub send-empty : le_z l (pos 0) ≡ true → Answers (Refused E_PAR)
+      pub send-empty : le_z l (pos 0) ≡ true → Answers (some E_PAR)
       send-empty e = after-timeout (refused-here empty (dirty ∷ named) (rw l-is at e))
 
       module _ (some_bytes : le_z l (pos 0) ≡ false) {d : Bool} (d-is : d ≡ (dirty_tail l bytes).applies) where
-        after-empty : {v : Verdict} → v ≡ verdict (first_refusal (dirty ∷ named)) → Answers v
+        after-empty : {v : Option ℤ} → v ≡ first_refusal (dirty ∷ named) → Answers v
         after-empty f = after-timeout (refused-later empty (dirty ∷ named) (rw l-is at some_bytes) f)
 
         dirty-is : dirty.applies ≡ d
         dirty-is = sym (rw l-is at d-is)
 
-        pub send-dirty : d ≡ true → Answers (Refused E_PAR)
+        pub send-dirty : d ≡ true → Answers (some E_PAR)
         unfolding dirty_tail
         send-dirty e = after-empty (refused-here dirty named (dirty-is ∙ e))
 
-        after-clean : d ≡ false → {v : Verdict} → v ≡ verdict (first_refusal named) → Answers v
+        after-clean : d ≡ false → {v : Option ℤ} → v ≡ first_refusal named → Answers v
         after-clean clean f = after-empty (refused-later dirty named (dirty-is ∙ clean) f)
 
       module _ (some_bytes : le_z l (pos 0) ≡ false) {d : Bool} (d-is : d ≡ (dirty_tail l bytes).applies) (clean : d ≡ false)
-          {x : ℤ} (x-is : x ≡ buffer) {found : Option BufferNumber} (from : found ≡ maybe_buffer (field_number x buffers)) where
+          {x : ℤ} (x-is : x ≡ buffer) {found : code.Option BufferNumber} (from : found ≡ maybe_buffer (field_number x buffers)) where
         made : found ≡ maybe_buffer (field_number buffer buffers)
         made = rw x-is at from
 
-        after_tail : {v : Verdict} → v ≡ verdict (first_refusal named) → Answers v
+        after_tail : {v : Option ℤ} → v ≡ first_refusal named → Answers v
         after_tail f = after-clean some_bytes d-is clean f
 
-        pub send-numberless : found ≡ None → Answers (Refused E_ID)
+        pub send-numberless : found ≡ None → Answers (some E_ID)
         send-numberless e = after_tail (number-refused buffer_kind buffer made (no_such k.buffers.exists buffer ∷ long ∷ late ∷ []) e)
 
-        module _ {b : BufferNumber} (some : found ≡ Some b) {v : ℕ} (v-is : v ≡ k.buffers.exists ! b.0) where
+        module _ {b : BufferNumber} (is-some : found ≡ Some b) {v : ℕ} (v-is : v ≡ k.buffers.exists ! b.0) where
           is-buffer : number buffer ≡ b.0
-          is-buffer = (numbered buffer_kind buffer made some).1
+          is-buffer = (numbered buffer_kind buffer made is-some).1
 
-          pub send-missing : v ≡ 0 → Answers (Refused E_NOEXS)
-          send-missing e = after_tail (missing-refused buffer_kind buffer made k.buffers.exists (long ∷ late ∷ []) some v-is e)
+          pub send-missing : v ≡ 0 → Answers (some E_NOEXS)
+          send-missing e = after_tail (missing-refused buffer_kind buffer made k.buffers.exists (long ∷ late ∷ []) is-some v-is e)
 
           module _ (there : v ≢ 0) {y : ℤ} (y-is : y ≡ msgsz) {n : ℕ} (n-is : n ≡ number y) {m : ℕ} (m-is : m ≡ k.buffers.maxmsz ! b.0) where
             size : n ≡ number msgsz
             size = rw y-is at n-is
 
-            later : {v : Verdict} → v ≡ verdict (first_refusal (long ∷ late ∷ [])) → Answers v
-            later e = after_tail (there-later buffer_kind buffer made k.buffers.exists (long ∷ late ∷ []) some v-is there e)
+            later : {v : Option ℤ} → v ≡ first_refusal (long ∷ late ∷ []) → Answers v
+            later e = after_tail (there-later buffer_kind buffer made k.buffers.exists (long ∷ late ∷ []) is-some v-is there e)
 
-            pub send-long : m < n → Answers (Refused E_PAR)
+            pub send-long : m < n → Answers (some E_PAR)
             send-long h = later (refused-here long (late ∷ []) (rw (is-buffer, ← m-is) (longer m msgsz (rw size at h))))
 
             module _ (short : n ≤ m) {w : Bool} (w-is : w ≡ send_waits k b.0 n) {u : Bool} (u-is : u ≡ (no_time a w).applies) where
               waits-is : w ≡ send_waits k (number buffer) (number msgsz)
               waits-is = rw (is-buffer, ← size) w-is
 
-              lately : {v : Verdict} → v ≡ verdict (first_refusal (late ∷ [])) → Answers v
+              lately : {v : Option ℤ} → v ≡ first_refusal (late ∷ []) → Answers v
               lately f = later (refused-later long (late ∷ []) (rw (is-buffer, ← m-is) (not-longer m msgsz (rw size at short))) f)
 
-              pub send-late : u ≡ true → Answers (Refused E_TMOUT)
+              pub send-late : u ≡ true → Answers (some E_TMOUT)
               send-late e = lately (time-refused timeout (send_waits k (number buffer) (number msgsz)) a-is waits-is u-is [] e)
 
-              pub send-allowed : u ≡ false → Answers Allowed
+              pub send-allowed : u ≡ false → Answers none
               send-allowed e = lately (time-later timeout (send_waits k (number buffer) (number msgsz)) a-is waits-is u-is [] e refl)
 
 -- ---- each branch
@@ -201,14 +201,14 @@ module _ (caller b : ℕ) (m : List ℕ) (timeout : ℤ) {s st o log s' log' : L
         carries-as caller
         (send-waits (lent_world (areas s st o log)) b m timeout nobody (sym r-is ∙ e) ∙ rw (runs, t-is)) (f.carries st)
 
-  pub sends-over : {n : ℕ} {found : Option TaskNumber} {r : TaskNumber} {o' : List ℕ} → n ≡ b → found ≡ maybe_task (queue_front (kernel s) (queue receiving n))
+  pub sends-over : {n : ℕ} {found : code.Option TaskNumber} {r : TaskNumber} {o' : List ℕ} → n ≡ b → found ≡ maybe_task (queue_front (kernel s) (queue receiving n))
       → found ≡ Some r → CarriesInLog caller (sent_over r.0 m) s o log at s' o' log' x
       → Carries caller (λ w. snd_mbf w b m timeout) (areas s st o log) at (areas s' st o' log') x
   sends-over n-is from e f =
       let q = rw n-is at (task-is _ _ (sym from ∙ e)) in
       carries-as caller (send-over (lent_world (areas s st o log)) b m timeout (sym q.0) (rw (← q.0) at q.1)) (f.carries st)
 
-pub nobody-receives : (s : List ℕ) {b n : ℕ} {found : Option TaskNumber} → n ≡ b → found ≡ maybe_task (queue_front (kernel s) (queue receiving n)) → found ≡ None
+pub nobody-receives : (s : List ℕ) {b n : ℕ} {found : code.Option TaskNumber} → n ≡ b → found ≡ maybe_task (queue_front (kernel s) (queue receiving n)) → found ≡ None
     → queue_front (kernel s) (queue receiving b) ≡ 0
 nobody-receives s n-is from e = rw n-is at (task-is-none _ (sym from ∙ e))
 
@@ -251,7 +251,7 @@ pub sends-as : (b : ℕ) (m : List ℕ) (timeout : ℤ) {m' : List ℕ} {t : ℤ
     → {caller : ℕ} {a c : Areas} {at : ℕ} {y : Reply} → Carries caller (λ w. snd_mbf w b m' t) a at c y → Carries caller (λ w. snd_mbf w b m timeout) a at c y
 sends-as b m timeout m-is t-is f = rw (← t-is, ← m-is) f
 
-module _ (buffer : ℤ) {x : ℤ} (x-is : x ≡ buffer) {found : Option BufferNumber} (from : found ≡ maybe_buffer (field_number x buffers)) where
+module _ (buffer : ℤ) {x : ℤ} (x-is : x ≡ buffer) {found : code.Option BufferNumber} (from : found ≡ maybe_buffer (field_number x buffers)) where
   pub send-named : (k : Kernel) (msgsz timeout : ℤ) (bytes : List ℕ) → first_refusal (snd_mbf_refusals k buffer msgsz timeout bytes) ≡ none → found ≡ None → ⊥
   unfolding snd_mbf_refusals bad_number
   send-named k msgsz timeout bytes e g = never-unnumbered buffer_kind buffer (rw x-is at from) (snd_mbf_refusals k buffer msgsz timeout bytes) 3 e refl g
@@ -259,4 +259,4 @@ module _ (buffer : ℤ) {x : ℤ} (x-is : x ≡ buffer) {found : Option BufferNu
   pub sends : {b : BufferNumber} → found ≡ Some b → (m : List ℕ) (timeout : ℤ) {m' : List ℕ} {t : ℤ} → m' ≡ m → t ≡ timeout
       → {caller : ℕ} {a c : Areas} {at : ℕ} {y : Reply} → Carries caller (λ w. snd_mbf w b.0 m' t) a at c y
       → Carries caller (λ w. snd_mbf w (number buffer) m timeout) a at c y
-  sends {b} some m timeout m-is t-is f = rw (numbered buffer_kind buffer (rw x-is at from) some).1 (sends-as b.0 m timeout m-is t-is f)
+  sends {b} is-some m timeout m-is t-is f = rw (numbered buffer_kind buffer (rw x-is at from) is-some).1 (sends-as b.0 m timeout m-is t-is f)

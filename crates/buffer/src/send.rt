@@ -18,7 +18,6 @@ ghost use Rattle.buffer.specs.Branches.{sent_over, sent_in, send_waiting};
 use super::create::LONGEST_MESSAGE;
 use act::wait::{end_wait_message, wait};
 use areas::bytes::{all_zero, behind, first};
-use message::copy::least;
 use message::outbox::outbox_put;
 use message::room::room;
 use model::call::Answer;
@@ -246,7 +245,7 @@ pub fn snd_mbf(
             next: at,
         };
     };
-    let n = least(natural(msgsz) as usize, MESSAGE_BYTES);
+    let n = (natural(msgsz) as usize).min(MESSAGE_BYTES);
     if n <= message.len() {
         let m = &message[..n];
         return send(state, store, outbox, log, at, caller, b, m, timeout);

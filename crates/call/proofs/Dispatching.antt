@@ -1,6 +1,8 @@
 -- Which function a call has: its conditions and its effect are those that the functions of its kind promise, and where no task runs only a tick is
 -- carried out.
-use Rattle.std.specs.Prelude.{None, Option, Some}
+use Rattle.std.proofs.Math.Option.{some, Option}
+use Rattle.std.specs.Prelude as code
+use Rattle.std.specs.Prelude.{None, Some}
 use Prim.Native.Nat.{ℕ, zero, suc, ◌-◌, ◌≤◌, ◌<◌, ◌^◌}
 use native.Mathlib.Omega.{arith}
 use mathlib.Core.Path.{◌≡◌, ◌∙◌, refl, sym, ap, subst}
@@ -35,10 +37,8 @@ use Rattle.model.proofs.RefusalLaws.{none-applies, in-range}
 use Rattle.script.proofs.Signed.{read_back}
 use Rattle.message.proofs.Messages.{oldest_length-packed}
 use Rattle.valid.specs.Agree.{valid-agrees}
-use Rattle.reply.specs.declared.Verdict.{Verdict}
-use Rattle.reply.specs.declared.Verdict.TheVariants.{Allowed as Free, Refused}
 use Rattle.reply.specs.declared.Reply.{Reply}
-use Rattle.reply.specs.Replies.{verdict, Carries}
+use Rattle.reply.specs.Replies.{Carries}
 use Rattle.reply.proofs.Refusing.{refused-here}
 use Rattle.buffer.specs.Stored.{Answerable}
 use Rattle.call.specs.Steps.{Allowed, is_tick}
@@ -118,10 +118,10 @@ none-behind (r ∷ rs) e = sym (refusal-not r rs (none-applies (r ∷ rs) e 0)) 
 
 module _ {c x : Call} (is : c ≡ x) where
   -- its own conditions refuse it, since somebody runs
-  pub made-refused : (k : Kernel) (bytes : List ℕ) {t : ℕ} {v : Verdict} → (t ≡ running k) × (1 ≤ t) → v ≡ verdict (first_refusal (rest (refusals k x bytes)))
-      → v ≡ verdict (first_refusal (refusals k c bytes))
+  pub made-refused : (k : Kernel) (bytes : List ℕ) {t : ℕ} {v : Option ℤ} → (t ≡ running k) × (1 ≤ t) → v ≡ first_refusal (rest (refusals k x bytes))
+      → v ≡ first_refusal (refusals k c bytes)
   unfolding nobody_runs
-  made-refused k bytes (runs, some) e = rw (is, own_first k x bytes (ne_eqb (running k) 0 (λ q. absurd (omega arith)))) e
+  made-refused k bytes (runs, is-some) e = rw (is, own_first k x bytes (ne_eqb (running k) 0 (λ q. absurd (omega arith)))) e
 
   -- none of them does where nothing refuses it
   pub made-allowed : {a : Areas} {bytes : List ℕ} → Allowed a c bytes → first_refusal (rest (refusals (kernel a.words) x bytes)) ≡ none
@@ -134,31 +134,31 @@ module _ {c x : Call} (is : c ≡ x) where
 
 -- ---- the caller
 
-pub caller_runs : (k : Kernel) {caller : Option TaskNumber} {t : TaskNumber} → caller ≡ maybe_task (running k) → caller ≡ Some t → (t.0 ≡ running k) × (1 ≤ t.0)
-caller_runs k {t = t} runs e = let (same, some) = task-is (running k) t (sym runs ∙ e) in (same, omega arith)
+pub caller_runs : (k : Kernel) {caller : code.Option TaskNumber} {t : TaskNumber} → caller ≡ maybe_task (running k) → caller ≡ Some t → (t.0 ≡ running k) × (1 ≤ t.0)
+caller_runs k {t = t} runs e = let (same, is-some) = task-is (running k) t (sym runs ∙ e) in (same, omega arith)
 
 pub carries-for : {t u : ℕ} {f : World → Done} {a b : Areas} {at : ℕ} {r : Reply} → t ≡ u → Carries t f a at b r → Carries u f a at b r
 carries-for {f = f} {a} {b} {at} {r} e h = subst (λ (n : ℕ). Carries n f a at b r) e h
 
 -- nobody runs
-module _ (k : Kernel) (c : Call) (bytes : List ℕ) {caller : Option TaskNumber} (runs : caller ≡ maybe_task (running k)) (nobody : caller ≡ None) where
+module _ (k : Kernel) (c : Call) (bytes : List ℕ) {caller : code.Option TaskNumber} (runs : caller ≡ maybe_task (running k)) (nobody : caller ≡ None) where
   nobody-runs : (nobody_runs k).applies ≡ true
   unfolding nobody_runs
   nobody-runs = eq-eqb (running k) 0 (task-is-none (running k) (sym runs ∙ nobody))
 
-  pub nobody-refused : is_tick c ≡ false → Refused E_CTX ≡ verdict (first_refusal (refusals k c bytes))
+  pub nobody-refused : is_tick c ≡ false → some E_CTX ≡ first_refusal (refusals k c bytes)
   unfolding nobody_runs kind_of
   nobody-refused n = go (tick-or-made k c bytes)
     where
-      go : (c ≡ Tick) ⊎ Made k c bytes → Refused E_CTX ≡ verdict (first_refusal (refusals k c bytes))
+      go : (c ≡ Tick) ⊎ Made k c bytes → some E_CTX ≡ first_refusal (refusals k c bytes)
       go (inl e) = absurd (true≢false (sym (ap is_tick e) ∙ n))
       go (inr m) = rw m.first (refused-here (nobody_runs k) (rest (refusals k c bytes)) nobody-runs)
 
-  pub nobody-free : is_tick c ≡ true → Free ≡ verdict (first_refusal (refusals k c bytes))
+  pub nobody-free : is_tick c ≡ true → none ≡ first_refusal (refusals k c bytes)
   unfolding refusals
   nobody-free y = go (tick-or-made k c bytes)
     where
-      go : (c ≡ Tick) ⊎ Made k c bytes → Free ≡ verdict (first_refusal (refusals k c bytes))
+      go : (c ≡ Tick) ⊎ Made k c bytes → none ≡ first_refusal (refusals k c bytes)
       go (inl e) = rw e
       go (inr m) = absurd (true≢false (sym y ∙ m.not-tick))
 

@@ -1,8 +1,9 @@
 -- One invocation on lent words is a call on the state that they hold, or none.
+use Rattle.std.specs.Prelude.{Result, Ok, Err}
+use Rattle.model.specs.declared.call.Record.{Record}
+use Rattle.model.specs.declared.call.Stop.{Stop}
 use Rattle.model.proofs.Terms.{ℕ, eqb, ltb, ◌≤◌, ℕ_discrete, dec_le, arith, ◌≡◌, ◌∙◌, refl, sym, ap, some, List, [], ◌∷◌, ◌++◌, foldl, foldl-append, append_assoc, length, eq-eqb, ne_eqb, le-ltb, lt-ltb, le-leb, lt-leb, E_SYS, log_bytes, script_bytes, FieldsFit, read_record, record_message, Areas, with_log, untouched, returned, lent_step, script_over, went, entered}
 use Rattle.model.specs.declared.call.Answer.TheVariants.{Code}
-use Rattle.model.specs.declared.call.Read.{Read}
-use Rattle.model.specs.declared.call.Read.TheVariants.{Record, Stop}
 use Rattle.model.proofs.ListLaws.{either}
 use Rattle.model.proofs.ByCase.{lent-untouched, record-no-area, record-too-long, record-end, record-stops, record-runs}
 use Rattle.state.proofs.WordLaws.{represents}
@@ -48,14 +49,14 @@ module _ (b : AreasWithLedger) (v : ValidAreas b.areas) where
       a : Areas
       a = lending b.areas log
 
-      go : Dec (length log ≡ log_bytes) → Dec (length script ≤ script_bytes) → Dec (length script ≤ at) → (r : Read) → read_record script at ≡ r → MakesItsCall b (OfRecord script at log)
+      go : Dec (length log ≡ log_bytes) → Dec (length script ≤ script_bytes) → Dec (length script ≤ at) → (r : Result Record Stop) → read_record script at ≡ r → MakesItsCall b (OfRecord script at log)
       go (no d) n h r e = rw (record-no-area a script at d, ne_eqb (length log) log_bytes d, untold (call_of (OfRecord script at log)))
       go (yes l) (no n) h r e = rw (record-too-long a script at l (omega arith), eq-eqb (length log) log_bytes l, lt-ltb script_bytes (length script) (omega arith))
       go (yes l) (yes n) (yes h) r e =
           rw (record-end a script at l n h, eq-eqb (length log) log_bytes l, le-ltb script_bytes (length script) n, le-leb (length script) at h, entries_from)
-      go (yes l) (yes n) (no h) (Stop offset) e =
+      go (yes l) (yes n) (no h) (Err stop) e = let offset = stop.offset in
           rw (record-stops a script at l n (omega arith) e, eq-eqb (length log) log_bytes l, le-ltb script_bytes (length script) n, lt-leb (length script) at (omega arith), e, entries_from)
-      go (yes l) (yes n) (no h) (Record c next) e =
+      go (yes l) (yes n) (no h) (Ok read) e = let c = read.call in let next = read.next in
           rw (record-runs a script at l n (omega arith) e, eq-eqb (length log) log_bytes l, le-ltb script_bytes (length script) n, lt-leb (length script) at (omega arith), e, entries_from)
           (made (record { call = c; bytes = record_message script at }) log l (records-fit script at c next e))
 

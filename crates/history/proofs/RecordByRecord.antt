@@ -1,9 +1,11 @@
 -- A script run record by record on lent areas leaves what the definitions' run leaves, and writes its log.
+use Rattle.std.specs.Prelude.{Result, Ok, Err}
+use Rattle.model.specs.declared.call.Record.{Record}
+use Rattle.model.specs.declared.call.Stop.{Stop}
+use Rattle.model.specs.Record.{found}
 use Rattle.model.proofs.Terms.{ℕ, zero, suc, ◌+◌, ◌≤◌, ◌<◌, dec_le, arith, ◌≡◌, ◌∙◌, refl, sym, ap, ap₂, Bool, true, false, List, [], ◌∷◌, ◌++◌, take, drop, length, length-append, length-drop, length-take, ◌!◌, log_bytes, script_bytes, over, overwritten, running, valid, word_count, refused, FieldsFit, step, read_record, record_message, stop_bytes, outcome_log, ran, run_from, Areas, with_log, returned, script_over, went}
 use Rattle.model.specs.declared.call.Call.{Call}
 use Rattle.model.specs.declared.call.Cursor.{Cursor}
-use Rattle.model.specs.declared.call.Read.{Read}
-use Rattle.model.specs.declared.call.Read.TheVariants.{Record, Stop}
 use Rattle.model.proofs.ByCase.{step-not-valid, record-end, record-stops, record-runs, run-over, run-stops, run-goes-on}
 use Rattle.state.proofs.WordLaws.{Sized, sized, words-kernel, represents}
 use Rattle.state.proofs.LentLaws.{lent-step}
@@ -59,7 +61,7 @@ module _ (a : Areas) (long : length a.words ≡ word_count) where
 
 module _ (script : List ℕ) where
   -- a record takes a byte at least
-  pub goes_on : (at : ℕ) (c : Call) (next : Cursor) → at < length script → read_record script at ≡ Record c next → at < next.at
+  pub goes_on : (at : ℕ) (c : Call) (next : Cursor) → at < length script → read_record script at ≡ found c next → at < next.at
   goes_on at c next inside e = omega (arith, (was_read at (script ! at) (drop (at + 1) script) c next (sym (read_at script at inside) ∙ e)).end)
 
   -- the run has turns enough for what is left of the script; on lent areas there are as many or more
@@ -76,13 +78,13 @@ module _ (script : List ℕ) where
     follows (suc m) zero a at less enough long log = rw (record-end a script at log short (omega arith)) (over-here a long [] (omega arith))
     follows (suc m) (suc n) a at less enough long log = go (dec_le (length script) at) (read_record script at) refl (follows m n)
       where
-        go : Dec (length script ≤ at) → (r : Read) → read_record script at ≡ r → ((b : Areas) (i : ℕ) → Follows m n b i)
+        go : Dec (length script ≤ at) → (r : Result Record Stop) → read_record script at ≡ r → ((b : Areas) (i : ℕ) → Follows m n b i)
             → SameRun (records_from (suc m) a script at) (run_from (suc n) (lent_in a) script at)
         go (yes h) r e rest = rw (record-end a script at log short h, run-over n (lent_in a) script at h) (over-here a long [] (omega arith))
-        go (no h) (Stop offset) e rest =
+        go (no h) (Err stop) e rest = let offset = stop.offset in
             rw (record-stops a script at log short (omega arith) e, run-stops n (lent_in a) script at (omega arith) e)
             (over-here a long (stop_bytes offset) (omega arith))
-        go (no h) (Record c next) e rest =
+        go (no h) (Ok read) e rest = let c = read.call in let next = read.next in
             let bytes = record_message script at in
             let o = step (lent_in a) c bytes in
             let written = outcome_log (running (lent_in a).kernel) o in

@@ -1,11 +1,12 @@
 -- The statements of `Statements`, proved: from what is counted in one call to the log of a record and of a script. Assumes nothing.
+use Rattle.std.specs.Prelude.{Result, Ok, Err}
+use Rattle.model.specs.declared.call.Record.{Record}
+use Rattle.model.specs.declared.call.Stop.{Stop}
 use Rattle.model.proofs.Terms.{ℕ, zero, suc, ◌+◌, ◌*◌, ◌-◌, ◌≤◌, dec_le, arith, ◌≡◌, ◌∙◌, refl, sym, ap, Bool, true, false, Option, none, some, List, [], ◌∷◌, map, length, drop, length-append, length-map, length-drop, ℤ, eqb, eqb-true, ltb, leb, message_bytes, log_bytes, script_bytes, ◌!◌, joined, E_SYS, Lent, Delivery, Nothing, Message, Block, Ended, running, first_refusal, refusals, effect, valid, word_count, kernel, Outcome, refused, step, fresh_lent, read_record, record_message, field, fields_of, answer_bytes, delivery_bytes, ended_bytes, runs_bytes, outcome_log, run_from, run, script_log, lent, Returned, Went, stop_bytes, is_valid, untouched, not_valid, returned, lent_step, script_over, went, lent_record}
 use mathlib.Core.Bool.{and-eq-true_iff}
 use Rattle.model.specs.Compute.{compute}
 use Rattle.model.specs.declared.call.Call.{Call}
 use Rattle.model.specs.declared.call.Answer.TheVariants.{Code, Waits, Exits}
-use Rattle.model.specs.declared.call.Read.{Read}
-use Rattle.model.specs.declared.call.Read.TheVariants.{Record, Stop}
 use Rattle.model.proofs.ListLaws.{by-test, length-count_from}
 use Rattle.model.proofs.ByCase.{step-refused, step-done, step-valid, step-not-valid, run-over, run-stops, run-goes-on, script-too-long, script-runs}
 use Rattle.script.proofs.Rows.{fields_fit, fields_made}
@@ -83,8 +84,8 @@ lent-record-log-fits a script at =
     by-test Fits (eqb (length a.log) log_bytes) (λ l. let long = eqb-true (length a.log) log_bytes l in
     by-test Fits (ltb script_bytes (length script)) (λ e. omega arith) (λ e. by-test Fits (leb (length script) at) (λ e. omega arith)
     (λ e. elim (read_record script at) as
-    (λ r. Fits (elim r [ Stop o ↦ script_over a (stop_bytes o) | Record c n ↦ went (lent_step a c (record_message script at)) n.at ]))
-    [ Stop o ↦ omega arith | Record c n ↦ lent-log-fits a c (record_message script at) ]))) (λ l. omega arith)
+    (λ r. Fits (elim r [ Err stop ↦ script_over a (stop_bytes stop.offset) | Ok read ↦ went (lent_step a read.call (record_message script at)) read.next.at ]))
+    [ Err stop ↦ omega arith | Ok read ↦ lent-log-fits a read.call (record_message script at) ]))) (λ l. omega arith)
 
 -- ---- a script
 
@@ -96,10 +97,10 @@ runs-short : (script : List ℕ) (n : ℕ) (x : Lent) (at : ℕ) → Short scrip
 runs-short script zero x at = omega arith
 runs-short script (suc n) x at = go (dec_le (length script) at) (read_record script at) refl (runs-short script n)
   where
-    go : Dec (length script ≤ at) → (r : Read) → read_record script at ≡ r → ((y : Lent) (i : ℕ) → Short script n y i) → Short script (suc n) x at
+    go : Dec (length script ≤ at) → (r : Result Record Stop) → read_record script at ≡ r → ((y : Lent) (i : ℕ) → Short script n y i) → Short script (suc n) x at
     go (yes h) r e rest = rw (run-over n x script at h) (omega arith)
-    go (no h) (Stop offset) e rest = rw (run-stops n x script at (omega arith) e) (omega arith)
-    go (no h) (Record c next) e rest =
+    go (no h) (Err stop) e rest = let offset = stop.offset in rw (run-stops n x script at (omega arith) e) (omega arith)
+    go (no h) (Ok read) e rest = let c = read.call in let next = read.next in
         let o = step x c (record_message script at) in
         let paid = (step-bounded x c (record_message script at)).covered in
         let r = was_read at (script ! at) (drop (at + 1) script) c next (sym (read_at script at (omega arith)) ∙ e) in

@@ -7,7 +7,9 @@ use mathlib.Core.Bool.{Bool, true, false, not}
 use lib.IntN.{ℤ, pos, negsuc, ◌-ℤ◌}
 use lib.Signed.{mag, lt_z, le_z, non_neg}
 use lib.Dec.{leb}
-use mir.Syntax.{w32}
+use Rattle.std.specs.Int.{int_max, int_min}
+use Rattle.std.proofs.lemmas.Int.{clamps}
+use mir.Syntax.{w32, w64}
 use mir.Val.{SFits, to_z, of_z}
 use mir.Facts.{to_z_pos, to_z-of_z}
 use borrow.Author.Tests.{leb-true, leb-false, le-leb, le-ltb}
@@ -18,8 +20,17 @@ use Rattle.model.specs.Kernel.{Kernel}
 use Rattle.model.specs.Message.{cost, room}
 use Rattle.model.specs.Act.{fits}
 use Rattle.model.specs.Valid.{BufferRange}
-use Rattle.model.proofs.IntegerLaws.{minus-less, minus-more, below-minus, below-minus-one}
+use Rattle.model.proofs.IntegerLaws.{minus-less, minus-more, below-minus}
 use Rattle.message.specs.Room.{RoomAnswersFits, RoomIsExact}
+
+-- a number clamped to 32 bits
+nearest : (z : ℤ) → int_max (negsuc longest) (int_min z (pos longest)) ≡ saturated z
+nearest (pos m) = grind (arith, clamps)
+nearest (negsuc m) = grind (arith, clamps)
+
+saturated-fits : (z : ℤ) → mag (saturated z) < 2 ^ 31
+saturated-fits (pos m) = omega arith
+saturated-fits (negsuc m) = omega arith
 
 module _ (bufsz used n : ℕ) where
   room-over : used + cost n ≤ bufsz → room bufsz used n ≡ pos (bufsz - (used + cost n))
@@ -46,21 +57,37 @@ module _ (bufsz used n : ℕ) where
       go true e = rw (room-over (leb-true _ _ e)) refl
       go false e = rw (room-lacking (leb-false _ _ e)) refl
 
-  -- ---- as the machine has it: 32 bits hold the least of a number and their largest
+  -- ---- as the machine has it: the difference in 64 bits, and the nearest number of 32 bits
 
-  module _ {taken r : ℕ} (taken_is : taken ≡ cost n) where
-    pub machine-over : used + taken ≤ bufsz → r ≡ min (bufsz - (used + taken)) longest → to_z w32 r ≡ saturated (room bufsz used n)
-    machine-over h e = rw (room-over (omega arith)) (to_z_pos w32 {n = r} (omega arith) ∙ ap pos (omega arith))
+  below-63 : bufsz < 2 ^ 32 → used < 2 ^ 32 → n < 2 ^ 32 → mag (room bufsz used n) < 2 ^ 63
+  below-63 a b c = go (leb (used + cost n) bufsz) refl
+    where
+      go : (f : Bool) → leb (used + cost n) bufsz ≡ f → mag (room bufsz used n) < 2 ^ 63
+      go true e = rw (room-over (leb-true _ _ e)) (omega arith)
+      go false e = rw (room-lacking (leb-false _ _ e)) (unfold cost in omega arith)
 
-    module _ (e : r ≡ min (used + taken - bufsz - 1) longest) where
-      below : negsuc 0 -ℤ to_z w32 r ≡ negsuc r
-      below = below-minus-one r (omega arith)
+  module _ {need : ℕ} (need-is : need ≡ used + cost n) (a : bufsz < 2 ^ 32) (b : used < 2 ^ 32) (c : n < 2 ^ 32) where
+    pub machine-difference : to_z w64 bufsz -ℤ to_z w64 need ≡ room bufsz used n
+    machine-difference =
+        rw (to_z_pos w64 {n = bufsz} (omega arith), to_z_pos w64 {n = need} (unfold cost in omega arith), need-is) (go (leb (used + cost n) bufsz) refl)
+      where
+        go : (f : Bool) → leb (used + cost n) bufsz ≡ f → pos bufsz -ℤ pos (used + cost n) ≡ room bufsz used n
+        go true e = minus-less bufsz _ (leb-true _ _ e) ∙ sym (room-over (leb-true _ _ e))
+        go false e =
+            let l = leb-false _ _ e in
+            minus-more bufsz _ l ∙ ap negsuc (omega arith) ∙ sym (room-lacking l)
 
-      pub machine-fits : SFits w32 (negsuc 0 -ℤ to_z w32 r)
-      machine-fits = rw below (record { sfits = omega arith })
+    pub machine-fits : SFits w64 (to_z w64 bufsz -ℤ to_z w64 need)
+    machine-fits = rw machine-difference (record { sfits = below-63 a b c })
 
-      pub machine-lacking : bufsz < used + taken → to_z w32 (of_z w32 (negsuc 0 -ℤ to_z w32 r)) ≡ saturated (room bufsz used n)
-      machine-lacking h = to_z-of_z machine-fits ∙ below ∙ rw (room-lacking (omega arith)) (ap negsuc (omega arith))
+    pub machine-room : {r : ℤ} → r ≡ int_max (negsuc longest) (int_min (to_z w64 (of_z w64 (to_z w64 bufsz -ℤ to_z w64 need))) (pos longest))
+        → to_z w32 (of_z w32 (to_z w64 (of_z w64 r))) ≡ saturated (room bufsz used n)
+    machine-room {r} e =
+        let z = room bufsz used n in
+        let r-is : r ≡ saturated z =
+        e ∙ ap (λ (x : ℤ). int_max (negsuc longest) (int_min x (pos longest))) (to_z-of_z machine-fits ∙ machine-difference) ∙ nearest z in
+        let small : mag (saturated z) < 2 ^ 31 = saturated-fits z in
+        rw (r-is, to_z-of_z {w = w64} {z = saturated z} (record { sfits = omega arith })) (to_z-of_z {w = w32} {z = saturated z} (record { sfits = small }))
 
 -- ---- its sign, asked by `>= 0` and by `< 0` of the answer as the machine reads it back
 

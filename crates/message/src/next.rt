@@ -15,6 +15,7 @@ pub enum Location {
 }
 
 // A part of the store or of the outbox, whichever holds the message.
+#[tactic(auto, unfolding(crate::specs::NextMessage::message_at))]
 pub fn message_at<'a>(store: &'a [u8], outbox: &'a [u8], at: Location) -> &'a [u8]
     ensures { result.now ≡ message_at at store.now outbox.now }
 {

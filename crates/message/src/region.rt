@@ -28,6 +28,7 @@ pub fn append(r: &mut [u8], used: usize, m: &[u8], n: usize)
     }
 }
 
+#[tactic(auto, unfolding(model::specs::Message::oldest_length))]
 pub fn oldest_length(r: &[u8]) -> u32
     ensures { result ≡ oldest_length r.now }
 {

@@ -3,8 +3,6 @@ ghost use Rattle.std.specs.Prelude.{◌≡◌, ◌-◌};
 ghost use Rattle.model.specs.Code.{saturated};
 ghost use Rattle.model.specs.Message.{rounded_up, cost, room};
 
-use model::sizes::LONGEST;
-
 // How many zeros follow a message of n bytes.
 pub(crate) fn padding(n: usize) -> usize
     ensures { result ≡ rounded_up n - n }
@@ -13,6 +11,7 @@ pub(crate) fn padding(n: usize) -> usize
 }
 
 // Any length that can stand before a message has a cost, so a damaged region has one too.
+#[tactic(auto, unfolding(model::specs::Message::cost))]
 pub fn cost(n: u32) -> usize
     ensures { result ≡ cost n }
 {
@@ -25,11 +24,7 @@ pub fn cost(n: u32) -> usize
 pub fn room(bufsz: u32, used: u32, n: u32) -> i32
     ensures { result ≡ saturated (room bufsz used n) }
 {
-    let size = bufsz as usize;
-    let taken = cost(n);
-    let need = used as usize + taken;
-    if need <= size {
-        return (size - need).min(LONGEST as usize) as i32;
-    }
-    -1 - (need - size - 1).min(LONGEST as usize) as i32
+    let need = used as usize + cost(n);
+    let over = bufsz as i64 - need as i64;
+    over.clamp(i32::MIN as i64, i32::MAX as i64) as i32
 }

@@ -1,4 +1,5 @@
 -- cre_mtx, in the order of the code's steps. Assumes nothing.
+use Rattle.std.proofs.Math.Option.{some}
 use Rattle.std.specs.Prelude.{None, Option, Some}
 use Rattle.model.proofs.Terms.{ℕ, ◌≡◌, ◌∙◌, refl, Bool, true, false, ◌&&◌, ◌||◌, not, none, cond, List, [], ◌∷◌, length, ℤ, pos, lt_z, eqb, priorities, mutexes, member, E_RSATR, E_PAR, E_LIMIT, number, ceilinged, Kernel, with_mutex_exists, with_mutex_attribute, with_ceiling, unused, Refusal, refuse, first_refusal, outside, mutex_attributes, none_free, cre_mtx_refusals, cre_mtx, kernel, word_count, answer_bytes}
 use Rattle.model.specs.Number.{maybe_mutex, MutexNumber}
@@ -7,8 +8,7 @@ use Rattle.model.specs.declared.call.Answer.TheVariants.{Code}
 use Rattle.model.proofs.NumberLaws.{mutex_kind}
 use Rattle.state.specs.Words.{Represents}
 use Rattle.script.specs.Place.{Appends}
-use Rattle.reply.specs.declared.Verdict.TheVariants.{Allowed, Refused}
-use Rattle.reply.specs.Replies.{verdict, CarriesInWords}
+use Rattle.reply.specs.Replies.{CarriesInWords}
 use Rattle.reply.proofs.Refusing.{refused-here, refused-later}
 use Rattle.reply.proofs.Conditions.{attribute-refused, attribute-later}
 use Rattle.reply.proofs.Creations.{full-refused, unused-later, never-full, creates}
@@ -21,7 +21,7 @@ module _ (k : Kernel) (attribute ceiling : ℤ) {b : ℤ} (b-is : b ≡ attribut
   abbrev full : Refusal
   full = none_free k.mutexes.exists mutexes
 
-  pub create-attribute : lt_z b (pos 0) || not allowed ≡ true → Refused E_RSATR ≡ verdict (first_refusal (cre_mtx_refusals k attribute ceiling))
+  pub create-attribute : lt_z b (pos 0) || not allowed ≡ true → some E_RSATR ≡ first_refusal (cre_mtx_refusals k attribute ceiling)
   unfolding cre_mtx_refusals
   create-attribute e = attribute-refused mutex_attributes attribute b-is a-is allowed-is (beyond ∷ full ∷ []) e
 
@@ -29,19 +29,19 @@ module _ (k : Kernel) (attribute ceiling : ℤ) {b : ℤ} (b-is : b ≡ attribut
     asked : eqb (number attribute) ceilinged && outside (pos 1) (pos priorities) ceiling ≡ eqb a ceilinged && bad
     asked = cc
 
-    pub create-ceiling : eqb a ceilinged && bad ≡ true → Refused E_PAR ≡ verdict (first_refusal (cre_mtx_refusals k attribute ceiling))
+    pub create-ceiling : eqb a ceilinged && bad ≡ true → some E_PAR ≡ first_refusal (cre_mtx_refusals k attribute ceiling)
     unfolding cre_mtx_refusals
     create-ceiling e =
         attribute-later mutex_attributes attribute b-is a-is allowed-is (beyond ∷ full ∷ []) fine (refused-here beyond (full ∷ []) (asked ∙ e))
 
     module _ (within : eqb a ceilinged && bad ≡ false) {found : Option MutexNumber} (from : found ≡ maybe_mutex (unused k.mutexes.exists mutexes)) where
-      pub create-full : found ≡ None → Refused E_LIMIT ≡ verdict (first_refusal (cre_mtx_refusals k attribute ceiling))
+      pub create-full : found ≡ None → some E_LIMIT ≡ first_refusal (cre_mtx_refusals k attribute ceiling)
       unfolding cre_mtx_refusals
       create-full e =
           attribute-later mutex_attributes attribute b-is a-is allowed-is (beyond ∷ full ∷ []) fine
           (refused-later beyond (full ∷ []) (asked ∙ within) (full-refused mutex_kind k.mutexes.exists from [] e))
 
-      pub create-allowed : {m : MutexNumber} → found ≡ Some m → Allowed ≡ verdict (first_refusal (cre_mtx_refusals k attribute ceiling))
+      pub create-allowed : {m : MutexNumber} → found ≡ Some m → none ≡ first_refusal (cre_mtx_refusals k attribute ceiling)
       unfolding cre_mtx_refusals
       create-allowed e =
           attribute-later mutex_attributes attribute b-is a-is allowed-is (beyond ∷ full ∷ []) fine
@@ -60,8 +60,8 @@ pub creates-mutex : (attribute ceiling : ℤ) {b d : ℤ} → b ≡ attribute �
     → Represents s2 (with_mutex_attribute (kernel s1) m.0 a) → Represents s3 (with_ceiling (kernel s2) m.0 kept)
     → CarriesInWords caller (λ w. cre_mtx w (number attribute) ceiling) s log at s3 l1 (record { answer = answer; next = p })
 unfolding cre_mtx
-creates-mutex attribute ceiling b-is d-is caller h made some n-is answer-is l a-is kept-is x y z =
+creates-mutex attribute ceiling b-is d-is caller h made is-some n-is answer-is l a-is kept-is x y z =
     let kept = cond (eqb (number attribute) ceilinged) (number ceiling) 0 in
     creates mutex_kind (λ k. k.mutexes.exists)
-    (λ k n. with_ceiling (with_mutex_attribute (with_mutex_exists k n 1) n (number attribute)) n kept) caller h made some n-is answer-is l
+    (λ k n. with_ceiling (with_mutex_attribute (with_mutex_exists k n 1) n (number attribute)) n kept) caller h made is-some n-is answer-is l
     (record { length = z.length; kernel = cc })

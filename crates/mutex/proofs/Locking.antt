@@ -1,5 +1,7 @@
 -- loc_mtx, in the order of the code's steps. Assumes nothing.
-use Rattle.std.specs.Prelude.{None, Option, Some}
+use Rattle.std.proofs.Math.Option.{some, Option}
+use Rattle.std.specs.Prelude as code
+use Rattle.std.specs.Prelude.{None, Some}
 use Rattle.model.proofs.Terms.{ℕ, ◌≤◌, arith, ◌≡◌, ◌∙◌, refl, sym, ap, ◌≢◌, Bool, true, false, ◌&&◌, not, none, List, [], ◌∷◌, length, ℤ, eqb, ltb, eq-eqb, ne_eqb, ◌!◌, tasks, mutexes, E_OK, E_PAR, E_ID, E_NOEXS, E_ILUSE, E_TMOUT, number, queue, locking, inherits, ceilinged, Kernel, with_holder, Nothing, with_kernel, running, recompute, settled, millis, wait, Refusal, refuse, first_refusal, bad_timeout, bad_number, no_such, no_time, lock_waits, loc_mtx_refusals, loc_mtx, kernel, word_count, answer_bytes, Each, Priorities, Bitmap, Locking}
 use Rattle.model.specs.Number.{field_number, maybe_mutex, MutexNumber}
 use Rattle.model.specs.declared.call.Answer.TheVariants.{Code, Waits}
@@ -12,9 +14,7 @@ use Rattle.priority.proofs.SettledLaws.{holder-settled, wait-settled}
 use Rattle.act.specs.Held.{DoesInWords}
 use Rattle.act.specs.Ends.{wait_begun}
 use Rattle.act.proofs.Ending.{waits-locking}
-use Rattle.reply.specs.declared.Verdict.{Verdict}
-use Rattle.reply.specs.declared.Verdict.TheVariants.{Allowed, Refused}
-use Rattle.reply.specs.Replies.{verdict, CarriesInWords}
+use Rattle.reply.specs.Replies.{CarriesInWords}
 use Rattle.reply.proofs.Refusing.{refused-here, refused-later, numbered, never-unnumbered, number-refused, missing-refused, there-later}
 use Rattle.reply.proofs.Replying.{answer-alone, carried-in-words, in-words-as, changes-kernel}
 use Rattle.reply.proofs.Conditions.{timeout-refused, timeout-later, time-refused, time-later}
@@ -50,35 +50,35 @@ module _ (k : Kernel) (mutex timeout : ℤ) {u : ℤ} (u-is : u ≡ timeout) {sh
   abbrev named : List Refusal
   named = bad_number mutexes mutex ∷ no_such k.mutexes.exists mutex ∷ rest
 
-  pub lock-timeout : short ≡ true → Refused E_PAR ≡ verdict (first_refusal (loc_mtx_refusals k mutex timeout))
+  pub lock-timeout : short ≡ true → some E_PAR ≡ first_refusal (loc_mtx_refusals k mutex timeout)
   unfolding loc_mtx_refusals
   lock-timeout e = timeout-refused timeout u-is short-is named e
 
-  module _ (long : short ≡ false) {b : ℤ} (b-is : b ≡ mutex) {found : Option MutexNumber} (from : found ≡ maybe_mutex (field_number b mutexes)) where
+  module _ (long : short ≡ false) {b : ℤ} (b-is : b ≡ mutex) {found : code.Option MutexNumber} (from : found ≡ maybe_mutex (field_number b mutexes)) where
     made : found ≡ maybe_mutex (field_number mutex mutexes)
     made = rw b-is at from
 
-    pub lock-numberless : found ≡ None → Refused E_ID ≡ verdict (first_refusal (loc_mtx_refusals k mutex timeout))
+    pub lock-numberless : found ≡ None → some E_ID ≡ first_refusal (loc_mtx_refusals k mutex timeout)
     unfolding loc_mtx_refusals
     lock-numberless e =
         timeout-later timeout u-is short-is named long (number-refused mutex_kind mutex made (no_such k.mutexes.exists mutex ∷ rest) e)
 
-    module _ {m : MutexNumber} (some : found ≡ Some m) {x : ℕ} (x-is : x ≡ k.mutexes.exists ! m.0) where
-      pub lock-missing : x ≡ 0 → Refused E_NOEXS ≡ verdict (first_refusal (loc_mtx_refusals k mutex timeout))
+    module _ {m : MutexNumber} (is-some : found ≡ Some m) {x : ℕ} (x-is : x ≡ k.mutexes.exists ! m.0) where
+      pub lock-missing : x ≡ 0 → some E_NOEXS ≡ first_refusal (loc_mtx_refusals k mutex timeout)
       unfolding loc_mtx_refusals
       lock-missing e =
-          timeout-later timeout u-is short-is named long (missing-refused mutex_kind mutex made k.mutexes.exists rest some x-is e)
+          timeout-later timeout u-is short-is named long (missing-refused mutex_kind mutex made k.mutexes.exists rest is-some x-is e)
 
       module _ (there : x ≢ 0) {h t caller : ℕ} (h-is : h ≡ k.mutexes.holder ! m.0) (t-is : t ≡ caller) (runs : caller ≡ running k) where
         is-mutex : number mutex ≡ m.0
-        is-mutex = (numbered mutex_kind mutex made some).1
+        is-mutex = (numbered mutex_kind mutex made is-some).1
 
-        later : {v : Verdict} → v ≡ verdict (first_refusal rest) → v ≡ verdict (first_refusal (loc_mtx_refusals k mutex timeout))
+        later : {v : Option ℤ} → v ≡ first_refusal rest → v ≡ first_refusal (loc_mtx_refusals k mutex timeout)
         unfolding loc_mtx_refusals
         later f =
-            timeout-later timeout u-is short-is named long (there-later mutex_kind mutex made k.mutexes.exists rest some x-is there f)
+            timeout-later timeout u-is short-is named long (there-later mutex_kind mutex made k.mutexes.exists rest is-some x-is there f)
 
-        pub lock-held : h ≡ t → Refused E_ILUSE ≡ verdict (first_refusal (loc_mtx_refusals k mutex timeout))
+        pub lock-held : h ≡ t → some E_ILUSE ≡ first_refusal (loc_mtx_refusals k mutex timeout)
         lock-held e =
             later
             (refused-here held (above ∷ late ∷ []) (rw is-mutex (eq-eqb (k.mutexes.holder ! m.0) (running k) (sym h-is ∙ e ∙ t-is ∙ runs))))
@@ -91,7 +91,7 @@ module _ (k : Kernel) (mutex timeout : ℤ) {u : ℤ} (u-is : u ≡ timeout) {sh
           above-is : above.applies ≡ high
           above-is = rw (is-mutex, ← runs) (sym high_is)
 
-          pub lock-above : high ≡ true → Refused E_ILUSE ≡ verdict (first_refusal (loc_mtx_refusals k mutex timeout))
+          pub lock-above : high ≡ true → some E_ILUSE ≡ first_refusal (loc_mtx_refusals k mutex timeout)
           lock-above e = later (refused-later held (above ∷ late ∷ []) not-held (refused-here above (late ∷ []) (above-is ∙ e)))
 
           module _ (below : high ≡ false) {r : Bool} (r-is : r ≡ (no_time u (not (eqb h 0))).applies) where
@@ -99,13 +99,13 @@ module _ (k : Kernel) (mutex timeout : ℤ) {u : ℤ} (u-is : u ≡ timeout) {sh
             unfolding lock_waits
             waits-is = rw (is-mutex, h-is)
 
-            lately : {v : Verdict} → v ≡ verdict (first_refusal (late ∷ [])) → v ≡ verdict (first_refusal (loc_mtx_refusals k mutex timeout))
+            lately : {v : Option ℤ} → v ≡ first_refusal (late ∷ []) → v ≡ first_refusal (loc_mtx_refusals k mutex timeout)
             lately f = later (refused-later held (above ∷ late ∷ []) not-held (refused-later above (late ∷ []) (above-is ∙ below) f))
 
-            pub lock-late : r ≡ true → Refused E_TMOUT ≡ verdict (first_refusal (loc_mtx_refusals k mutex timeout))
+            pub lock-late : r ≡ true → some E_TMOUT ≡ first_refusal (loc_mtx_refusals k mutex timeout)
             lock-late e = lately (time-refused timeout (lock_waits k (number mutex)) u-is waits-is r-is [] e)
 
-            pub lock-allowed : r ≡ false → Allowed ≡ verdict (first_refusal (loc_mtx_refusals k mutex timeout))
+            pub lock-allowed : r ≡ false → none ≡ first_refusal (loc_mtx_refusals k mutex timeout)
             lock-allowed e = lately (time-later timeout (lock_waits k (number mutex)) u-is waits-is r-is [] e refl)
 
 -- and what it does: a free mutex is taken, with a ceiling or without,
@@ -136,7 +136,7 @@ module _ (s : List ℕ) (m t : ℕ) (timeout : ℤ) {n : ℕ} (n-is : n ≡ m) {
           (omega (arith, runs, f.high), λ (p : (kernel s).tasks.place ! t ≡ locking). omega (arith, sym p ∙ place))
 
 -- the call
-module _ (mutex timeout : ℤ) {b : ℤ} (b-is : b ≡ mutex) {found : Option MutexNumber} (from : found ≡ maybe_mutex (field_number b mutexes)) where
+module _ (mutex timeout : ℤ) {b : ℤ} (b-is : b ≡ mutex) {found : code.Option MutexNumber} (from : found ≡ maybe_mutex (field_number b mutexes)) where
   named-mutex : found ≡ maybe_mutex (field_number mutex mutexes)
   named-mutex = rw b-is at from
 
@@ -144,9 +144,9 @@ module _ (mutex timeout : ℤ) {b : ℤ} (b-is : b ≡ mutex) {found : Option Mu
   unfolding loc_mtx_refusals bad_number
   lock-named k e g = never-unnumbered mutex_kind mutex named-mutex (loc_mtx_refusals k mutex timeout) 1 e refl g
 
-  module _ {m : MutexNumber} (some : found ≡ Some m) where
+  module _ {m : MutexNumber} (is-some : found ≡ Some m) where
     number_is : number mutex ≡ m.0
-    number_is = (numbered mutex_kind mutex named-mutex some).1
+    number_is = (numbered mutex_kind mutex named-mutex is-some).1
 
     module _ {caller h : ℕ} {s log l1 : List ℕ} {at p : ℕ} (size : length s ≡ word_count) (runs : caller ≡ running (kernel s))
         (h-is : h ≡ (kernel s).mutexes.holder ! m.0) where

@@ -11,7 +11,7 @@ ghost use Rattle.reply.specs.Replies.{CarriesInWords};
 
 use model::attribute::{CEILINGED, of_mutex};
 use model::call::Answer;
-use model::code::{E_LIMIT, Error};
+use model::code::{E_OK, Error};
 use model::number::{TaskNumber, natural};
 use model::sizes::PRIORITIES;
 use reply::Reply;
@@ -66,7 +66,7 @@ pub fn cre_mtx(
     let found = unused_mutex(state);
     let Some(m) = found else {
         return Reply {
-            answer: Answer::Code(E_LIMIT),
+            answer: Answer::Code(E_OK),
             next: at,
         };
     };

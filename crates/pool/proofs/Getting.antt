@@ -1,5 +1,7 @@
 -- get_mpf, in the order of the code's steps. Assumes nothing.
-use Rattle.std.specs.Prelude.{None, Option, Some}
+use Rattle.std.proofs.Math.Option.{some, Option}
+use Rattle.std.specs.Prelude as code
+use Rattle.std.specs.Prelude.{None, Some}
 use Rattle.model.proofs.Terms.{ℕ, ◌≡◌, ◌∙◌, refl, sym, ◌≢◌, Bool, true, false, none, List, [], ◌∷◌, length, ℤ, eqb, ◌!◌, pools, E_OK, E_PAR, E_ID, E_NOEXS, E_TMOUT, number, queue, getting, Kernel, with_taken, slot, Nothing, Block, running, wait, Refusal, first_refusal, bad_timeout, bad_number, no_such, no_time, free_block, get_mpf_refusals, get_mpf, kernel, word_count, answer_bytes, delivery_bytes}
 use Rattle.model.specs.Number.{field_number, maybe_pool, PoolNumber}
 use Rattle.model.specs.declared.call.Answer.TheVariants.{Code, Waits}
@@ -9,9 +11,7 @@ use Rattle.state.specs.Words.{Represents}
 use Rattle.script.specs.Place.{Appends}
 use Rattle.script.proofs.Appending.{wrote, wrote-more}
 use Rattle.act.specs.Held.{DoesInWords}
-use Rattle.reply.specs.declared.Verdict.{Verdict}
-use Rattle.reply.specs.declared.Verdict.TheVariants.{Allowed, Refused}
-use Rattle.reply.specs.Replies.{verdict, CarriesInWords}
+use Rattle.reply.specs.Replies.{CarriesInWords}
 use Rattle.reply.proofs.Refusing.{numbered, never-unnumbered, number-refused, missing-refused, there-later}
 use Rattle.reply.proofs.Replying.{changes-kernel, answer-alone, carried-in-words, in-words-as}
 use Rattle.reply.proofs.Conditions.{timeout-refused, timeout-later, time-refused, time-later}
@@ -23,40 +23,40 @@ module _ (k : Kernel) (pool timeout : ℤ) {u : ℤ} (u-is : u ≡ timeout) {sho
   abbrev named : List Refusal
   named = bad_number pools pool ∷ no_such k.pools.exists pool ∷ late ∷ []
 
-  pub get-timeout : short ≡ true → Refused E_PAR ≡ verdict (first_refusal (get_mpf_refusals k pool timeout))
+  pub get-timeout : short ≡ true → some E_PAR ≡ first_refusal (get_mpf_refusals k pool timeout)
   unfolding get_mpf_refusals
   get-timeout e = timeout-refused timeout u-is short-is named e
 
-  module _ (long : short ≡ false) {b : ℤ} (b-is : b ≡ pool) {found : Option PoolNumber} (from : found ≡ maybe_pool (field_number b pools)) where
+  module _ (long : short ≡ false) {b : ℤ} (b-is : b ≡ pool) {found : code.Option PoolNumber} (from : found ≡ maybe_pool (field_number b pools)) where
     made : found ≡ maybe_pool (field_number pool pools)
     made = rw b-is at from
 
-    after-timeout : {v : Verdict} → v ≡ verdict (first_refusal named) → v ≡ verdict (first_refusal (get_mpf_refusals k pool timeout))
+    after-timeout : {v : Option ℤ} → v ≡ first_refusal named → v ≡ first_refusal (get_mpf_refusals k pool timeout)
     unfolding get_mpf_refusals
     after-timeout f = timeout-later timeout u-is short-is named long f
 
-    pub get-numberless : found ≡ None → Refused E_ID ≡ verdict (first_refusal (get_mpf_refusals k pool timeout))
+    pub get-numberless : found ≡ None → some E_ID ≡ first_refusal (get_mpf_refusals k pool timeout)
     get-numberless e = after-timeout (number-refused pool_kind pool made (no_such k.pools.exists pool ∷ late ∷ []) e)
 
-    module _ {p : PoolNumber} (some : found ≡ Some p) {x : ℕ} (x-is : x ≡ k.pools.exists ! p.0) where
-      pub get-missing : x ≡ 0 → Refused E_NOEXS ≡ verdict (first_refusal (get_mpf_refusals k pool timeout))
-      get-missing e = after-timeout (missing-refused pool_kind pool made k.pools.exists (late ∷ []) some x-is e)
+    module _ {p : PoolNumber} (is-some : found ≡ Some p) {x : ℕ} (x-is : x ≡ k.pools.exists ! p.0) where
+      pub get-missing : x ≡ 0 → some E_NOEXS ≡ first_refusal (get_mpf_refusals k pool timeout)
+      get-missing e = after-timeout (missing-refused pool_kind pool made k.pools.exists (late ∷ []) is-some x-is e)
 
       module _ (there : x ≢ 0) {block : ℕ} (block-is : block ≡ free_block k p.0) {r : Bool} (r-is : r ≡ (no_time u (eqb block 0)).applies) where
         waits-is : eqb block 0 ≡ eqb (free_block k (number pool)) 0
-        waits-is = rw ((numbered pool_kind pool made some).1, block-is)
+        waits-is = rw ((numbered pool_kind pool made is-some).1, block-is)
 
-        lately : {v : Verdict} → v ≡ verdict (first_refusal (late ∷ [])) → v ≡ verdict (first_refusal (get_mpf_refusals k pool timeout))
-        lately f = after-timeout (there-later pool_kind pool made k.pools.exists (late ∷ []) some x-is there f)
+        lately : {v : Option ℤ} → v ≡ first_refusal (late ∷ []) → v ≡ first_refusal (get_mpf_refusals k pool timeout)
+        lately f = after-timeout (there-later pool_kind pool made k.pools.exists (late ∷ []) is-some x-is there f)
 
-        pub get-late : r ≡ true → Refused E_TMOUT ≡ verdict (first_refusal (get_mpf_refusals k pool timeout))
+        pub get-late : r ≡ true → some E_TMOUT ≡ first_refusal (get_mpf_refusals k pool timeout)
         get-late e = lately (time-refused timeout (eqb (free_block k (number pool)) 0) u-is waits-is r-is [] e)
 
-        pub get-allowed : r ≡ false → Allowed ≡ verdict (first_refusal (get_mpf_refusals k pool timeout))
+        pub get-allowed : r ≡ false → none ≡ first_refusal (get_mpf_refusals k pool timeout)
         get-allowed e = lately (time-later timeout (eqb (free_block k (number pool)) 0) u-is waits-is r-is [] e refl)
 
 -- and what it does
-module _ (pool timeout : ℤ) {b : ℤ} (b-is : b ≡ pool) {found : Option PoolNumber} (from : found ≡ maybe_pool (field_number b pools)) where
+module _ (pool timeout : ℤ) {b : ℤ} (b-is : b ≡ pool) {found : code.Option PoolNumber} (from : found ≡ maybe_pool (field_number b pools)) where
   named-pool : found ≡ maybe_pool (field_number pool pools)
   named-pool = rw b-is at from
 
@@ -64,9 +64,9 @@ module _ (pool timeout : ℤ) {b : ℤ} (b-is : b ≡ pool) {found : Option Pool
   unfolding get_mpf_refusals bad_number
   get-named k e g = never-unnumbered pool_kind pool named-pool (get_mpf_refusals k pool timeout) 1 e refl g
 
-  module _ {p : PoolNumber} (some : found ≡ Some p) where
+  module _ {p : PoolNumber} (is-some : found ≡ Some p) where
     number_is : number pool ≡ p.0
-    number_is = (numbered pool_kind pool named-pool some).1
+    number_is = (numbered pool_kind pool named-pool is-some).1
 
     module _ {caller block : ℕ} {s log l1 : List ℕ} {at m : ℕ} (size : length s ≡ word_count) (runs : caller ≡ running (kernel s))
         (block-is : block ≡ free_block (kernel s) p.0) where

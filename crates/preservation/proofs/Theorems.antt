@@ -1,10 +1,11 @@
 -- The statements of `Statements`, proved: each name is its statement's.
+use Rattle.std.specs.Prelude.{Result, Ok, Err}
+use Rattle.model.specs.declared.call.Record.{Record}
+use Rattle.model.specs.declared.call.Stop.{Stop}
 use Rattle.model.proofs.Terms.{Areas, ℕ_discrete, dec_le, ◌≤◌, arith, ◌≡◌, refl, sym, ap, subst, true, none, some, [], ◌∷◌, length, eqb, eq-eqb, eqb-true, log_bytes, script_bytes, Kernel, Lent, begun, World, first_refusal, refusals, perform, effect, Valid, valid, Bitmap, FirstSender, word_count, words, fields, sizes, fresh_lent, refused, carried_out, valid_step, read_record, record_message, lent, is_valid, with_log, untouched, returned, script_over, went, lent_record}
 use mathlib.Core.Bool.{and-eq-true_iff}
 use Rattle.model.specs.declared.call.Call.{Call}
 use Rattle.model.specs.declared.call.Call.TheVariants.{CreTsk, DelTsk, StaTsk, ExtTsk, TerTsk, ChgPri, CreMtx, DelMtx, LocMtx, UnlMtx, CreMbf, DelMbf, SndMbf, RcvMbf, CreMpf, DelMpf, GetMpf, RelMpf, Tick}
-use Rattle.model.specs.declared.call.Read.{Read}
-use Rattle.model.specs.declared.call.Read.TheVariants.{Record, Stop}
 use Rattle.model.proofs.Cases.{fresh-valid}
 use Rattle.model.proofs.ByCase.{step-valid, step-refused, step-done, lent-untouched, record-no-area, record-too-long, record-end, record-stops, record-runs, script-too-long, script-runs}
 use Rattle.state.proofs.WordLaws.{Sized, represents}
@@ -141,11 +142,11 @@ pub lent-records-keep-valid : LentRecordsKeepValid
 unfolding script_over with_log
 lent-records-keep-valid a script at v = go (ℕ_discrete (length a.log) log_bytes) (dec_le (length script) script_bytes) (dec_le (length script) at) (read_record script at) refl
   where
-    go : Dec (length a.log ≡ log_bytes) → Dec (length script ≤ script_bytes) → Dec (length script ≤ at) → (r : Read) → read_record script at ≡ r
+    go : Dec (length a.log ≡ log_bytes) → Dec (length script ≤ script_bytes) → Dec (length script ≤ at) → (r : Result Record Stop) → read_record script at ≡ r
         → ValidAreas (lent_record a script at).areas
     go (no d) s h r e = rw (record-no-area a script at d) v
     go (yes l) (no s) h r e = rw (record-too-long a script at l (omega arith)) v
     go (yes l) (yes s) (yes h) r e = rw (record-end a script at l s h) v
-    go (yes l) (yes s) (no h) (Stop offset) e = rw (record-stops a script at l s (omega arith) e) v
-    go (yes l) (yes s) (no h) (Record c next) e =
+    go (yes l) (yes s) (no h) (Err stop) e = let offset = stop.offset in rw (record-stops a script at l s (omega arith) e) v
+    go (yes l) (yes s) (no h) (Ok read) e = let c = read.call in let next = read.next in
         rw (record-runs a script at l s (omega arith) e) (unfold went in lent-calls-keep-valid a c (record_message script at) (records-fit script at c next e) v)

@@ -1,8 +1,8 @@
 -- Lists of calls, each with the bytes that are handed over with it; and a script's records as such a list.
+use Rattle.std.specs.Prelude.{Ok, Err}
 use Rattle.std.specs.Prelude.{◌∷◌}
 use Rattle.model.proofs.Terms.{ℕ, zero, suc, true, false, List, [], foldl, length, leb, Lent, Outcome, step, read_record, record_message, FieldsFit}
 use Rattle.model.specs.declared.call.Call.{Call}
-use Rattle.model.specs.declared.call.Read.TheVariants.{Record, Stop}
 
 pub record Entry : Type 0 where
   pub call : Call
@@ -34,7 +34,7 @@ entries_from zero script at = []
 entries_from (suc n) script at =
     elim (leb (length script) at) [
       | true ↦ []
-      | false ↦ elim (read_record script at) [ Stop offset ↦ [] | Record c next ↦ record { call = c; bytes = record_message script at } ∷ entries_from n script next.at ]
+      | false ↦ elim (read_record script at) [ Err stop ↦ [] | Ok read ↦ record { call = read.call; bytes = record_message script at } ∷ entries_from n script read.next.at ]
     ]
 
 unfoldable pub entries_of : List ℕ → List Entry

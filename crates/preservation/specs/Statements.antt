@@ -1,10 +1,10 @@
 -- Demand 2's last sentence: "The fresh state is sound and every call keeps it so." What is to be proved, each as a type; `Theorems` proves them.
 -- The state and its areas are valid by the statements of `Valid`, which agree with the test that the kernel makes.
+use Rattle.model.specs.Record.{found}
 use Rattle.std.specs.Prelude.{◌≤◌, ◌≡◌, ◌↔◌}
 use Rattle.model.proofs.Terms.{ℕ, true, false, none, List, foldl, tasks, buffers, store_bytes, outbox_bytes, zeros, up_to, fresh, Lent, World, begun, serve, first_fits, store_first, drain, first_refusal, refusals, perform, Each, Valid, valid, words, fresh_lent, step, read_record, FieldsFit, run, run_script, Areas, is_valid, lent_step, lent_record}
 use Rattle.model.specs.declared.call.Call.{Call}
 use Rattle.model.specs.declared.call.Cursor.{Cursor}
-use Rattle.model.specs.declared.call.Read.TheVariants.{Record}
 use Rattle.invariant.specs.Invariant.{Steady}
 use Rattle.preservation.specs.Entries.{Entry, AllFit, after, entries_of}
 
@@ -43,7 +43,7 @@ ListsKeepValid = (x : Lent) (es : List Entry) → AllFit es → Valid x → Vali
 
 -- Every record that is read has fields of 32 bits, whatever the bytes; and a run of records leaves what the list of its calls leaves.
 abbrev pub RecordsFit : Type 0
-RecordsFit = (script : List ℕ) (at : ℕ) (c : Call) (next : Cursor) → read_record script at ≡ Record c next → FieldsFit c
+RecordsFit = (script : List ℕ) (at : ℕ) (c : Call) (next : Cursor) → read_record script at ≡ found c next → FieldsFit c
 
 abbrev pub ScriptsFit : Type 0
 ScriptsFit = (script : List ℕ) → AllFit (entries_of script)

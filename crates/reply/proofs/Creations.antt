@@ -1,14 +1,13 @@
 -- Creations of any kind of object: order 9, and the number that is unused is answered, and the entries of its object are filled. Assumes nothing.
-use Rattle.model.proofs.Terms.{ℕ, ◌^◌, ◌<◌, arith, ◌≡◌, ◌∙◌, sym, true, false≢true, none, List, ◌∷◌, length, pos, eqb, eq-eqb, ne_eqb, E_LIMIT, Kernel, World, Nothing, with_kernel, unused, Refusal, refuse, first_refusal, none_free, Done, answered, From, kernel, word_count, answer_bytes}
+use lib.IntN.{ℤ}
+use Rattle.model.proofs.Terms.{ℕ, ◌^◌, ◌<◌, arith, ◌≡◌, ◌∙◌, sym, true, false≢true, Option, none, some, List, ◌∷◌, length, pos, eqb, eq-eqb, ne_eqb, E_LIMIT, Kernel, World, Nothing, with_kernel, unused, Refusal, refuse, first_refusal, none_free, Done, answered, From, kernel, word_count, answer_bytes}
 use Rattle.model.specs.declared.call.Answer.{Answer}
 use Rattle.model.specs.declared.call.Answer.TheVariants.{Code}
 use Rattle.model.proofs.NumberLaws.{Kind, is_some, is_none}
 use Rattle.model.proofs.RefusalLaws.{applies_at, none-applies, unused-free}
 use Rattle.state.specs.Words.{Represents}
 use Rattle.script.specs.Place.{Appends}
-use Rattle.reply.specs.declared.Verdict.{Verdict}
-use Rattle.reply.specs.declared.Verdict.TheVariants.{Refused}
-use Rattle.reply.specs.Replies.{verdict, CarriesInWords}
+use Rattle.reply.specs.Replies.{CarriesInWords}
 use Rattle.reply.proofs.Refusing.{refused-here, refused-later}
 use Rattle.reply.proofs.Replying.{answer-alone, carried-in-words, in-words-as, changes-kernel}
 
@@ -16,12 +15,12 @@ module _ {A : Type 0} (kind : Kind A) (entries : List ℕ) {found : A} (made : f
   none-unused : found ≡ kind.none → eqb (unused entries kind.last) 0 ≡ true
   none-unused e = eq-eqb (unused entries kind.last) 0 (is_none kind made e)
 
-  pub full-refused : (rs : List Refusal) → found ≡ kind.none → Refused E_LIMIT ≡ verdict (first_refusal (none_free entries kind.last ∷ rs))
+  pub full-refused : (rs : List Refusal) → found ≡ kind.none → some E_LIMIT ≡ first_refusal (none_free entries kind.last ∷ rs)
   unfolding none_free
   full-refused rs e = refused-here (refuse 9 E_LIMIT _) rs (none-unused e)
 
-  pub unused-later : {v : Verdict} (rs : List Refusal) {x : ℕ} → found ≡ kind.some x → v ≡ verdict (first_refusal rs)
-      → v ≡ verdict (first_refusal (none_free entries kind.last ∷ rs))
+  pub unused-later : {v : Option ℤ} (rs : List Refusal) {x : ℕ} → found ≡ kind.some x → v ≡ first_refusal rs
+      → v ≡ first_refusal (none_free entries kind.last ∷ rs)
   unfolding none_free
   unused-later rs e f = refused-later (refuse 9 E_LIMIT _) rs (ne_eqb (unused entries kind.last) 0 (is_some kind made e).1) f
 
@@ -47,6 +46,6 @@ pub creates : {A : Type 0} (kind : Kind A) (entries : Kernel → List ℕ) (fill
     {found : A} {x n : ℕ} {answer : Answer} → length s ≡ word_count → found ≡ kind.make (unused (entries (kernel s)) kind.last)
     → found ≡ kind.some x → n ≡ x → answer ≡ Code (pos n) → Appends log at (answer_bytes answer) l1 next → Represents s' (fill (kernel s) x)
     → CarriesInWords caller (creation kind entries fill) s log at s' l1 (record { answer = answer; next = next })
-creates kind entries fill caller {s} {x = x} {answer = answer} h made some n-is answer-is a r =
-    in-words-as caller (λ store outbox. rw ((new-number kind (entries (kernel s)) made some).0, answer-is, n-is))
+creates kind entries fill caller {s} {x = x} {answer = answer} h made there n-is answer-is a r =
+    in-words-as caller (λ store outbox. rw ((new-number kind (entries (kernel s)) made there).0, answer-is, n-is))
     (carried-in-words caller answer Nothing _ h (answer-alone caller answer a) (changes-kernel (λ k. fill k x) r))

@@ -1,5 +1,5 @@
 -- Deletions of any kind of object: what refuses one; and the object is struck out, and the waits of those that stood in its queue end. Assumes nothing.
-use Rattle.model.proofs.Terms.{ℕ, ◌-◌, arith, ◌≡◌, ◌∙◌, refl, ◌≢◌, none, List, [], ◌∷◌, length, take, drop, length-drop, ℤ, tasks, ◌!◌, E_OK, E_ID, E_NOEXS, E_DLT, number, Queue, queue, Kernel, World, Nothing, with_kernel, queue_order, end_waits, first_refusal, bad_number, no_such, deletion_refusals, Done, succeeds, Areas, kernel, word_count, answer_bytes}
+use Rattle.model.proofs.Terms.{ℕ, ◌-◌, arith, ◌≡◌, ◌∙◌, refl, ◌≢◌, none, some, List, [], ◌∷◌, length, take, drop, length-drop, ℤ, tasks, ◌!◌, E_OK, E_ID, E_NOEXS, E_DLT, number, Queue, queue, Kernel, World, Nothing, with_kernel, queue_order, end_waits, first_refusal, bad_number, no_such, deletion_refusals, Done, succeeds, Areas, kernel, word_count, answer_bytes}
 use lib.Seq.{take_all}
 use Rattle.model.specs.Number.{field_number}
 use Rattle.model.specs.declared.call.Answer.TheVariants.{Code}
@@ -10,8 +10,7 @@ use Rattle.order.specs.Order.{Tail, Tasks}
 use Rattle.order.proofs.Tasks.{queue-tasks}
 use Rattle.act.specs.Held.{Does, DoesInLog}
 use Rattle.act.proofs.Doing.{does}
-use Rattle.reply.specs.declared.Verdict.TheVariants.{Allowed, Refused}
-use Rattle.reply.specs.Replies.{verdict, CarriesInLog}
+use Rattle.reply.specs.Replies.{CarriesInLog}
 use Rattle.reply.proofs.Refusing.{numbered, never-unnumbered, number-refused, missing-refused, there-later}
 use Rattle.reply.proofs.Replying.{answer-alone, carried-in-log, changes-kernel}
 
@@ -19,18 +18,18 @@ module _ {A : Type 0} (kind : Kind A) (exists : List ℕ) (n : ℤ) {b : ℤ} (b
   made : found ≡ kind.make (field_number n kind.last)
   made = rw b-is at from
 
-  pub delete-numberless : found ≡ kind.none → Refused E_ID ≡ verdict (first_refusal (deletion_refusals kind.last exists n))
+  pub delete-numberless : found ≡ kind.none → some E_ID ≡ first_refusal (deletion_refusals kind.last exists n)
   unfolding deletion_refusals
   delete-numberless e = number-refused kind n made (no_such exists n ∷ []) e
 
-  module _ {m x : ℕ} (some : found ≡ kind.some m) (x-is : x ≡ exists ! m) where
-    pub delete-missing : x ≡ 0 → Refused E_NOEXS ≡ verdict (first_refusal (deletion_refusals kind.last exists n))
+  module _ {m x : ℕ} (there : found ≡ kind.some m) (x-is : x ≡ exists ! m) where
+    pub delete-missing : x ≡ 0 → some E_NOEXS ≡ first_refusal (deletion_refusals kind.last exists n)
     unfolding deletion_refusals
-    delete-missing e = missing-refused kind n made exists [] some x-is e
+    delete-missing e = missing-refused kind n made exists [] there x-is e
 
-    pub delete-allowed : x ≢ 0 → Allowed ≡ verdict (first_refusal (deletion_refusals kind.last exists n))
+    pub delete-allowed : x ≢ 0 → none ≡ first_refusal (deletion_refusals kind.last exists n)
     unfolding deletion_refusals
-    delete-allowed e = there-later kind n made exists [] some x-is e refl
+    delete-allowed e = there-later kind n made exists [] there x-is e refl
 
   pub delete-named : first_refusal (deletion_refusals kind.last exists n) ≡ none → found ≡ kind.none → ⊥
   unfolding deletion_refusals bad_number
@@ -61,9 +60,9 @@ pub deletes : {A : Type 0} (kind : Kind A) (place : ℕ) (strike : Kernel → �
     → Tail (queue_order (kernel s) (queue place x)) area start → length area ≡ tasks → Appends log at (answer_bytes (Code E_OK)) l1 p
     → Represents s1 (strike (kernel s) m) → DoesInLog (λ w. end_waits w (take (tasks - start) (drop start area)) E_DLT) s1 o l1 p s' o' log' next
     → CarriesInLog caller (deletion strike place (number n)) s o log at s' o' log' (record { answer = Code E_OK; next = next })
-deletes kind place strike n b-is {m = m} from some caller h x-is t size a r d =
+deletes kind place strike n b-is {m = m} from there caller h x-is t size a r d =
     let struck = changes-kernel (λ k. strike k m) r in
     let all = rw x-is at (put-down t size) in
-    rw (numbered kind n (rw b-is at from) some).1
+    rw (numbered kind n (rw b-is at from) there).1
     (carried-in-log caller (Code E_OK) Nothing _ h (answer-alone caller (Code E_OK) a)
     (record { does = λ store. strikes _ (λ k. queue_order k (queue place m)) all (struck.does store _ _ _) (d.does store) }))

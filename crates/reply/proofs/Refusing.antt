@@ -1,20 +1,21 @@
 -- The first refusal, condition by condition: a law for one that applies, and one for each that does not. Those of orders 5 and 6 are said once for
 -- every kind of object.
-use Rattle.model.proofs.Terms.{ℕ, arith, ◌≡◌, ◌∙◌, refl, sym, ◌≢◌, true, false, Option, none, some, List, ◌∷◌, ℤ, pos, eqb, eq-eqb, ne_eqb, ◌!◌, E_ID, E_NOEXS, number, bad_number, no_such, Refusal, refuse, first_refusal, outside}
+use Rattle.std.specs.Prelude.{Result, Ok, Err}
+use mathlib.Core.Path.{ap}
+use Rattle.model.specs.declared.code.Error.{Error}
+use Rattle.model.specs.Errors.{code_of, refusal_of}
+use Rattle.model.proofs.Terms.{ℕ, ◌≡◌, ◌∙◌, sym, ◌≢◌, true, false, Option, none, some, List, ◌∷◌, ℤ, pos, eqb, eq-eqb, ne_eqb, ◌!◌, E_ID, E_NOEXS, number, bad_number, no_such, Refusal, refuse, first_refusal, outside}
 use mathlib.Core.Bool.{true≢false}
 use Rattle.model.specs.Number.{field_number}
 use Rattle.model.proofs.NumberLaws.{Kind, is_some, is_none, field-inside, field-outside}
 use Rattle.model.proofs.ByCase.{refusal-applies, refusal-not}
 use Rattle.model.proofs.RefusalLaws.{applies_at, none-applies}
-use Rattle.reply.specs.declared.Verdict.{Verdict}
-use Rattle.reply.specs.declared.Verdict.TheVariants.{Allowed, Refused}
-use Rattle.reply.specs.Replies.{verdict}
 
 module _ (r : Refusal) (rs : List Refusal) where
-  pub refused-here : r.applies ≡ true → Refused r.code ≡ verdict (first_refusal (r ∷ rs))
+  pub refused-here : r.applies ≡ true → some r.code ≡ first_refusal (r ∷ rs)
   refused-here e = rw (refusal-applies r rs e)
 
-  pub refused-later : {v : Verdict} → r.applies ≡ false → v ≡ verdict (first_refusal rs) → v ≡ verdict (first_refusal (r ∷ rs))
+  pub refused-later : {v : Option ℤ} → r.applies ≡ false → v ≡ first_refusal rs → v ≡ first_refusal (r ∷ rs)
   refused-later e f = rw (refusal-not r rs e) f
 
 -- the number that a field names
@@ -31,35 +32,33 @@ module _ {A : Type 0} (kind : Kind A) (n : ℤ) {found : A} (made : found ≡ ki
   never-unnumbered rs i e f g = true≢false (sym (unnumbered g) ∙ sym f ∙ none-applies rs e i)
 
   -- order 5
-  pub number-refused : (rs : List Refusal) → found ≡ kind.none → Refused E_ID ≡ verdict (first_refusal (bad_number kind.last n ∷ rs))
+  pub number-refused : (rs : List Refusal) → found ≡ kind.none → some E_ID ≡ first_refusal (bad_number kind.last n ∷ rs)
   unfolding bad_number
   number-refused rs e = refused-here (refuse 5 E_ID _) rs (unnumbered e)
 
-  pub number-later : {v : Verdict} (rs : List Refusal) {x : ℕ} → found ≡ kind.some x → v ≡ verdict (first_refusal rs)
-      → v ≡ verdict (first_refusal (bad_number kind.last n ∷ rs))
+  pub number-later : {v : Option ℤ} (rs : List Refusal) {x : ℕ} → found ≡ kind.some x → v ≡ first_refusal rs
+      → v ≡ first_refusal (bad_number kind.last n ∷ rs)
   unfolding bad_number
   number-later rs e f = refused-later (refuse 5 E_ID _) rs (numbered e).0 f
 
   -- orders 5 and 6
-  module _ (entries : List ℕ) (rs : List Refusal) {x v : ℕ} (some : found ≡ kind.some x) (v-is : v ≡ entries ! x) where
-    pub missing-refused : v ≡ 0 → Refused E_NOEXS ≡ verdict (first_refusal (bad_number kind.last n ∷ no_such entries n ∷ rs))
+  module _ (entries : List ℕ) (rs : List Refusal) {x v : ℕ} (there : found ≡ kind.some x) (v-is : v ≡ entries ! x) where
+    pub missing-refused : v ≡ 0 → some E_NOEXS ≡ first_refusal (bad_number kind.last n ∷ no_such entries n ∷ rs)
     unfolding no_such
     missing-refused z =
-        number-later (no_such entries n ∷ rs) some (refused-here (refuse 6 E_NOEXS (eqb (entries ! number n) 0)) rs (rw (numbered some).1 (eq-eqb
+        number-later (no_such entries n ∷ rs) there (refused-here (refuse 6 E_NOEXS (eqb (entries ! number n) 0)) rs (rw (numbered there).1 (eq-eqb
         (entries ! x) 0 (sym v-is ∙ z))))
 
-    pub there-later : {w : Verdict} → v ≢ 0 → w ≡ verdict (first_refusal rs)
-        → w ≡ verdict (first_refusal (bad_number kind.last n ∷ no_such entries n ∷ rs))
+    pub there-later : {w : Option ℤ} → v ≢ 0 → w ≡ first_refusal rs
+        → w ≡ first_refusal (bad_number kind.last n ∷ no_such entries n ∷ rs)
     unfolding no_such
     there-later z f =
-        number-later (no_such entries n ∷ rs) some (refused-later (refuse 6 E_NOEXS (eqb (entries ! number n) 0)) rs (rw (numbered some).1 (ne_eqb
+        number-later (no_such entries n ∷ rs) there (refused-later (refuse 6 E_NOEXS (eqb (entries ! number n) 0)) rs (rw (numbered there).1 (ne_eqb
         (entries ! x) 0 (λ q. z (v-is ∙ q)))) f)
 
--- what a verdict was made from
-pub was-allowed : (o : Option ℤ) → verdict o ≡ Allowed → o ≡ none
-was-allowed none e = refl
-was-allowed (some d) e = absurd (let z : ◌≡◌ {A = ℕ} 0 1 = cc in omega arith)
+-- what a verdict says of the first refusal
+pub was-allowed : {r : Result Unit Error} {o : Option ℤ} {x : Unit} → refusal_of r ≡ o → r ≡ Ok x → o ≡ none
+was-allowed e is = sym e ∙ ap refusal_of is
 
-pub was-refused : (o : Option ℤ) {c : ℤ} → verdict o ≡ Refused c → o ≡ some c
-was-refused none e = absurd (let z : ◌≡◌ {A = ℕ} 0 1 = cc in omega arith)
-was-refused (some d) e = cc
+pub was-refused : {r : Result Unit Error} {o : Option ℤ} {x : Error} → refusal_of r ≡ o → r ≡ Err x → o ≡ some (code_of x)
+was-refused e is = sym e ∙ ap refusal_of is

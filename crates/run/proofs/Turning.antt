@@ -15,20 +15,18 @@ use Rattle.model.specs.Lent.{Areas, Went, lent_record}
 use Rattle.history.specs.RecordByRecord.{RanLent, and_then, records_from}
 use Rattle.history.proofs.Theorems.{record-by-record-is-script}
 use Rattle.run.specs.declared.Ran.{Ran}
-use Rattle.run.specs.declared.turn.Turn.{Turn}
-use Rattle.run.specs.declared.turn.Turn.TheVariants.{On, Over, Unwritten}
 use Rattle.run.specs.Runs.{Runs}
-use Rattle.run.specs.Turns.{turn_of, turn_if, Turned, RunsAll, AllIsScript}
+use Rattle.run.specs.Turns.{Turn, goes_to, is_done, not_written, turn_of, turn_if, Turned, RunsAll, AllIsScript}
 
 module _ (w : Went) (rest : Areas → ℕ → RanLent) where
   -- the record is answered, and what is left of the script follows
-  answered : (next : Cursor) (p : Progress) → w.progress ≡ p → On next ≡ turn_of p → (and_then w rest).areas ≡ (rest w.areas next.at).areas
+  answered : (next : Cursor) (p : Progress) → w.progress ≡ p → goes_to next ≡ turn_of p → (and_then w rest).areas ≡ (rest w.areas next.at).areas
   answered next (progress.Answered answer n) e t = let s : next ≡ n = cc in rw e (ap (λ (c : Cursor). (rest w.areas c.at).areas) (sym s))
   answered next progress.Over e t = absurd (let z : ◌≡◌ {A = ℕ} 0 1 = cc in omega arith)
   answered next progress.NoArea e t = absurd (let z : ◌≡◌ {A = ℕ} 0 1 = cc in omega arith)
 
   -- the script is over
-  over : (p : Progress) → w.progress ≡ p → Over ≡ turn_of p → (and_then w rest).areas ≡ w.areas
+  over : (p : Progress) → w.progress ≡ p → is_done ≡ turn_of p → (and_then w rest).areas ≡ w.areas
   over (progress.Answered answer n) e t = absurd (let z : ◌≡◌ {A = ℕ} 0 1 = cc in omega arith)
   over progress.Over e t = rw e
   over progress.NoArea e t = rw e
@@ -39,27 +37,27 @@ alone w script (progress.Answered answer n) e = rw e
 alone w script progress.Over e = rw e
 alone w script progress.NoArea e = rw e
 
-on-is-written : (next : Cursor) → On next ≢ Unwritten
+on-is-written : (next : Cursor) → goes_to next ≢ not_written
 on-is-written next e = let z : ◌≡◌ {A = ℕ} 0 1 = cc in omega arith
 
-over-is-written : Over ≢ Unwritten
+over-is-written : is_done ≢ not_written
 over-is-written e = let z : ◌≡◌ {A = ℕ} 0 1 = cc in omega arith
 
 module _ (left : ℕ) (a : Areas) (script : List ℕ) (at : ℕ) {b : Areas} {r : Turn} (h : Turned a script at b r) where
-  turn_on : (next : Cursor) → r ≡ On next → (records_from (suc left) a script at).areas ≡ (records_from left b script next.at).areas
+  turn_on : (next : Cursor) → r ≡ goes_to next → (records_from (suc left) a script at).areas ≡ (records_from left b script next.at).areas
   turn_on next e =
       answered (lent_record a script at) (λ c i. records_from left c script i) next (lent_record a script at).progress refl
       (sym e ∙ h.goes_on (λ u. on-is-written next (sym e ∙ u)))
       ∙ ap (λ (c : Areas). (records_from left c script next.at).areas) (sym h.areas)
 
-  turn-over : r ≡ Over → (records_from (suc left) a script at).areas ≡ b
+  turn-over : r ≡ is_done → (records_from (suc left) a script at).areas ≡ b
   turn-over e =
       over (lent_record a script at) (λ c i. records_from left c script i) (lent_record a script at).progress refl (sym e ∙ h.goes_on (λ u. over-is-written (sym e ∙ u)))
       ∙ sym h.areas
 
 -- ---- what a program does with what a record leaves
 
-pub turn-unwritten : {written : Bool} (p : Progress) → written ≡ false → Unwritten ≡ turn_if written p
+pub turn-unwritten : {written : Bool} (p : Progress) → written ≡ false → not_written ≡ turn_if written p
 turn-unwritten p e = rw e
 
 pub turn-written : {written : Bool} {p q : Progress} → written ≡ true → p ≡ q → turn_of q ≡ turn_if written p
@@ -81,12 +79,12 @@ at_first a script more = let none : 0 + more ≡ more = omega arith in rw none
 
 module _ (a₀ : Areas) (script : List ℕ) (a : Areas) (at turns : ℕ) (left : Left a₀ script a at turns) where
   module _ {b : Areas} {r : Turn} (h : Turned a script at b r) where
-    pub goes_on : (next : Cursor) → r ≡ On next → Left a₀ script b next.at (turns + 1)
+    pub goes_on : (next : Cursor) → r ≡ goes_to next → Left a₀ script b next.at (turns + 1)
     goes_on next e more =
         let one_more : turns + 1 + more ≡ turns + suc more = omega arith in
         rw one_more (left (suc more) ∙ turn_on more a script at h next e)
 
-    pub ends : r ≡ Over → RunsAll a₀ script b true
+    pub ends : r ≡ is_done → RunsAll a₀ script b true
     ends e =
         record {
           turns = turns + suc script_bytes;

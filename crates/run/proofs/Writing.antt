@@ -1,4 +1,5 @@
 -- What a record has written lies in the log's area. Assumes nothing.
+use Rattle.std.specs.Prelude.{Ok, Err}
 use Prim.Native.Nat.{ℕ, ◌≤◌}
 use native.Mathlib.Omega.{arith}
 use mathlib.Core.Path.{◌≡◌, ◌∙◌, refl, ap}
@@ -7,7 +8,6 @@ use lib.ListN.{length}
 use lib.Seq.{length-sets}
 use Rattle.model.proofs.Terms.{ℕ_discrete, eqb, ltb, leb, log_bytes, script_bytes, Areas, Returned, Went, is_valid, with_log, overwritten, untouched, not_valid, returned, lent_step, script_over, went, lent_record, read_record, record_message, stop_bytes}
 use Rattle.model.specs.declared.call.Call.{Call}
-use Rattle.model.specs.declared.call.Read.TheVariants.{Record, Stop}
 use Rattle.model.proofs.ListLaws.{by-test}
 use Rattle.model.proofs.ByCase.{record-no-area}
 use Rattle.message.proofs.Stores.{overwritten-sets}
@@ -33,8 +33,8 @@ record-long a script at =
     by-test Long (eqb (length a.log) log_bytes) (λ l. by-test Long (ltb script_bytes (length script)) (λ t. overwritten-long _ _ _)
     (λ t. by-test Long (leb (length script) at) (λ e. overwritten-long _ _ _)
     (λ e. elim (read_record script at) as
-    (λ r. Long (elim r [ Stop o ↦ script_over a (stop_bytes o) | Record c n ↦ went (lent_step a c (record_message script at)) n.at ]))
-    [ Stop o ↦ overwritten-long _ _ _ | Record c n ↦ step-long a c (record_message script at) ]))) (λ l. refl)
+    (λ r. Long (elim r [ Err stop ↦ script_over a (stop_bytes stop.offset) | Ok read ↦ went (lent_step a read.call (record_message script at)) read.next.at ]))
+    [ Err stop ↦ overwritten-long _ _ _ | Ok read ↦ step-long a read.call (record_message script at) ]))) (λ l. refl)
 
 -- so what was written is a front part of the area as it was left
 pub written-fits : (a : Areas) (script : List ℕ) (at : ℕ) {b : Areas} {r : Ran} → ran r b ≡ lent_record a script at → r.written ≤ length b.log

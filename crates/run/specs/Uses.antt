@@ -1,6 +1,6 @@
 -- Demand 3 of what runs. The public functions are used one after the other, in any order, on one state and its areas; of each use only that is known which the function's own
 -- contract promises.
-use Rattle.std.specs.Prelude.{ℕ, ◌≡◌, length}
+use Rattle.std.specs.Prelude.{ℕ, ◌≡◌, length, Result}
 use Rattle.std.proofs.Math.Option.{Option, some}
 use mathlib.Core.List.{List, [], ◌∷◌, foldl}
 use Rattle.model.specs.declared.call.Answer.{Answer}
@@ -9,7 +9,7 @@ use Rattle.model.specs.Lists.{zeros}
 use Rattle.model.specs.Words.{word_count}
 use Rattle.model.specs.Lent.{Areas, progress_answer}
 use Rattle.model.specs.Ledger.{fresh_ledger}
-use Rattle.state.specs.declared.Filled.{Filled}
+use Rattle.state.specs.declared.WrongLength.{WrongLength}
 use Rattle.state.specs.Fresh.{Filling}
 use Rattle.preservation.specs.Entries.{Entry, Every}
 use Rattle.history.specs.LentHistory.{Invocation, OfCall, OfRecord, call_of, lending, lent_in, AreasWithLedger, told, with_ledger_in, InvocationFits}
@@ -58,7 +58,7 @@ after_use b u = record { areas = left u; ledger = told b.ledger (lent_in b.areas
 -- Words that `state::fresh` has filled, zero areas, and the fresh ledger.
 pub record Begun (b : AreasWithLedger) : Type 0 where
   pub lent : List ℕ
-  pub answer : Filled
+  pub answer : Result Unit WrongLength
   pub sized : length lent ≡ word_count
   pub filled : Filling lent answer b.areas.words
   pub store : b.areas.store ≡ zeros store_bytes

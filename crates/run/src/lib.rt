@@ -8,7 +8,7 @@ ghost use Rattle.act.specs.Held.{areas};
 ghost use Rattle.run.specs.Runs.{Runs, is_over};
 
 use call::call;
-use model::call::{Cursor, Progress, Read};
+use model::call::{Cursor, Progress};
 use model::sizes::{LOG_BYTES, SCRIPT_BYTES};
 use script::log::{log_stop, log_too_long};
 use script::reader::{message, read_record};
@@ -53,16 +53,15 @@ pub fn run_record(
     if script.len() <= at.at {
         return over(0);
     }
-    let read = read_record(script, at);
-    let Read::Record { call: c, next } = read else {
+    let Ok(record) = read_record(script, at) else {
         return over(log_stop(log, 0, at.at));
     };
-    let called = call(state, store, outbox, log, c, message(script, at));
+    let called = call(state, store, outbox, log, record.call, message(script, at));
     let answer = called.answer;
     Ran {
         progress: Progress::Answered {
             answer: answer,
-            next: next,
+            next: record.next,
         },
         written: called.written,
     }

@@ -8,24 +8,20 @@ use model::sizes::SCRIPT_BYTES;
 // A byte more than a script may have: with it one sees that the script is too long, and the rest of the input is not read. A script has fewer records, too.
 pub const INPUT_BYTES: usize = SCRIPT_BYTES + 1;
 
-// At the next record; not at all, since the script is over; or not at all, since something could not be written.
+// Something could not be written, so the program does not go on.
 #[derive(Clone, Copy)]
-pub enum Turn {
-    On(Cursor),
-    Over,
-    Unwritten,
-}
+pub struct Unwritten;
 
-// After a record, by whether all of it was written.
-pub fn turn_of(progress: Progress, written: bool) -> Turn
+// After a record, by whether all of it was written: at the next record, or not at all, since the script is over.
+pub fn turn_of(progress: Progress, written: bool) -> Result<Option<Cursor>, Unwritten>
     ensures { result ≡ turn_if written progress }
 {
-    if written {
-        return match progress {
-            Progress::Answered { answer: _, next } => Turn::On(next),
-            Progress::Over => Turn::Over,
-            Progress::NoArea => Turn::Over,
-        };
+    if !written {
+        return Err(Unwritten);
     }
-    Turn::Unwritten
+    match progress {
+        Progress::Answered { answer: _, next } => Ok(Some(next)),
+        Progress::Over => Ok(None),
+        Progress::NoArea => Ok(None),
+    }
 }

@@ -3,7 +3,6 @@
 use Prim.Native.Nat.{ℕ, suc, ◌-◌, ◌^◌, ◌≤◌, ◌<◌}
 use native.Mathlib.Omega.{arith}
 use mathlib.Core.Path.{◌≡◌, ◌∙◌, refl, sym, ap}
-use mathlib.Core.List.{List}
 use mathlib.Core.Bool.{Bool, true, false}
 use lib.IntN.{ℤ, pos, negsuc}
 use lib.Signed.{mag}
@@ -12,14 +11,11 @@ use mir.Syntax.{w32}
 use mir.Val.{to_z, of_z}
 use mir.Facts.{to_z-of_z}
 use borrow.Author.Tests.{lt-ltb, le-ltb, ltb-true, ltb-false}
-use Rattle.model.specs.Code.{minus, signed, bits, code_bytes}
+use Rattle.model.specs.Code.{minus, signed, bits}
 
--- a signed number as the machine reads it back from its bits, and its bytes
+-- a signed number as the machine reads it back from its bits
 pub read_back : (z : ℤ) → mag z < 2 ^ 31 → to_z w32 (of_z w32 z) ≡ z
 read_back z h = to_z-of_z {w = w32} {z = z} (record { sfits = h })
-
-pub bytes_of : (z : ℤ) (bytes : List ℕ) → mag z < 2 ^ 31 → bytes ≡ code_bytes (to_z w32 (of_z w32 z)) → bytes ≡ code_bytes z
-bytes_of z bytes h e = e ∙ ap code_bytes (read_back z h)
 
 pub signed_low : (n : ℕ) → n < 2 ^ 31 → signed n ≡ pos n
 signed_low n h = rw (lt-ltb n (2 ^ 31) h)

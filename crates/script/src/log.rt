@@ -17,6 +17,7 @@ use model::number::{TaskNumber, task_byte};
 use model::sizes::MESSAGE_BYTES;
 
 // What the call is answered with.
+#[tactic(auto, unfolding(model::specs::Log::answer_bytes))]
 pub fn log_answer(area: &mut [u8], at: usize, answer: Answer) -> usize
     ensures { Appends area.old at (answer_bytes answer) area.new result }
 {
@@ -28,6 +29,7 @@ pub fn log_answer(area: &mut [u8], at: usize, answer: Answer) -> usize
 }
 
 // A wait that has ended with a code, before what it delivers.
+#[tactic(auto, unfolding(model::specs::Log::ended_bytes, model::specs::Log::delivery_bytes))]
 pub fn log_ended(area: &mut [u8], at: usize, task: TaskNumber, code: i32) -> usize
     ensures { Appends area.old at (ended_bytes (ended_with task.0 code)) area.new result }
 {
@@ -44,6 +46,7 @@ fn filled(message: &[u8]) -> [u8; MESSAGE_BYTES]
 }
 
 // A message that a task received.
+#[tactic(auto, unfolding(model::specs::Log::delivery_bytes))]
 pub fn log_message(area: &mut [u8], at: usize, task: TaskNumber, message: &[u8]) -> usize
     ensures { Appends area.old at (delivery_bytes task.0 (Message message.now)) area.new result }
 {
@@ -51,6 +54,7 @@ pub fn log_message(area: &mut [u8], at: usize, task: TaskNumber, message: &[u8])
 }
 
 // A block that a task got.
+#[tactic(auto, unfolding(model::specs::Log::delivery_bytes))]
 pub fn log_block(area: &mut [u8], at: usize, task: TaskNumber, block: u32) -> usize
     ensures { Appends area.old at (delivery_bytes task.0 (Block block)) area.new result }
 {
@@ -63,6 +67,7 @@ pub fn log_block(area: &mut [u8], at: usize, task: TaskNumber, block: u32) -> us
 }
 
 // The task that runs, 0 for none.
+#[tactic(auto, unfolding(model::specs::Log::runs_bytes))]
 pub fn log_runs(area: &mut [u8], at: usize, task: Option<TaskNumber>) -> usize
     ensures { Appends area.old at (runs_bytes (task_word task)) area.new result }
 {

@@ -48,7 +48,9 @@ pub fn message<'a>(script: &'a [u8], c: Cursor) -> &'a [u8]
     part(script, c.at + 1 + body.fields, body.message)
 }
 
-// A call by its kind and fields, of which it takes as many as it has; tick where no record has the kind. Here those of tasks, the others below.
+// A call by its kind and fields, of which it takes as many as it has; tick where no record has the kind. Here those of tasks, the others
+// below: one match of all kinds would be longer than a function may be.
+#[tactic(auto, unfolding(crate::specs::Body::call_in, crate::specs::Body::from_mutexes))]
 pub fn call_of(kind: u8, a: i32, b: i32, c: i32) -> Call
     ensures { result ≡ call_in kinds kind (a ∷ b ∷ c ∷ []) }
 {
@@ -66,6 +68,7 @@ pub fn call_of(kind: u8, a: i32, b: i32, c: i32) -> Call
     }
 }
 
+#[tactic(auto, unfolding(crate::specs::Body::call_in, crate::specs::Body::from_buffers))]
 fn mutex_call(kind: u8, a: i32, b: i32, c: i32) -> Call
     ensures { result ≡ call_in from_mutexes kind (a ∷ b ∷ c ∷ []) }
 {
@@ -84,6 +87,7 @@ fn mutex_call(kind: u8, a: i32, b: i32, c: i32) -> Call
     }
 }
 
+#[tactic(auto, unfolding(crate::specs::Body::call_in, crate::specs::Body::from_pools))]
 fn buffer_call(kind: u8, a: i32, b: i32, c: i32) -> Call
     ensures { result ≡ call_in from_buffers kind (a ∷ b ∷ c ∷ []) }
 {
@@ -107,6 +111,7 @@ fn buffer_call(kind: u8, a: i32, b: i32, c: i32) -> Call
     }
 }
 
+#[tactic(auto, unfolding(crate::specs::Body::call_in, crate::specs::Body::from_pools))]
 fn pool_call(kind: u8, a: i32, b: i32, c: i32) -> Call
     ensures { result ≡ call_in from_pools kind (a ∷ b ∷ c ∷ []) }
 {

@@ -46,6 +46,7 @@ pub fn write_record(
 #[derive(Clone, Copy)]
 struct Head(u8, i32, i32, i32);
 
+#[tactic(auto, unfolding(crate::specs::Write::call_head, model::specs::Record::kind_of, model::specs::Record::fields_of))]
 fn call_head(call: Call) -> Head
     ensures { result ≡ call_head call }
 {

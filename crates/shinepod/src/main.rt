@@ -1,13 +1,14 @@
 // Reads a script from standard input and writes its log to standard output, record by record: no more than one record's log is ever held.
 #![tactic(auto)]
 
+ghost use Rattle.std.specs.Prelude.{is_ok};
 ghost use Rattle.act.specs.Held.{areas};
 ghost use Rattle.run.specs.Turns.{Turned, RunsAll};
 
 use model::call::Cursor;
 use model::sizes::{LOG_BYTES, OUTBOX_BYTES, STORE_BYTES};
 use model::stream::{STDERR, STDIN, STDOUT};
-use run::turn::{INPUT_BYTES, Turn, turn_of};
+use run::turn::{INPUT_BYTES, Unwritten, turn_of};
 use run::{Ran, run_record};
 use state::layout::WORDS;
 
@@ -19,32 +20,31 @@ fn take_turn(
     log: &mut [u8],
     script: &[u8],
     at: Cursor,
-) -> Turn
+) -> Result<Option<Cursor>, Unwritten>
     ensures { Turned (areas state.old store.old outbox.old log.old) script.now at.at (areas state.new store.new outbox.new log.new) result }
 {
     let Ran { progress, written } = run_record(state, store, outbox, log, script, at);
     turn_of(progress, io::write_all(STDOUT, &log[..written]))
 }
 
-// From the first record on: a script has no more records than bytes. Answers whether all was written.
+// From the first record on: a script has no more records than bytes. An error says that something could not be written.
 fn run_all(
     state: &mut [u32],
     store: &mut [u8],
     outbox: &mut [u8],
     log: &mut [u8],
     script: &[u8],
-) -> bool
-    ensures { RunsAll (areas state.old store.old outbox.old log.old) script.now (areas state.new store.new outbox.new log.new) result }
+) -> Result<(), Unwritten>
+    ensures { RunsAll (areas state.old store.old outbox.old log.old) script.now (areas state.new store.new outbox.new log.new) (is_ok result) }
 {
     let mut at = Cursor { at: 0 };
     for _ in 0..INPUT_BYTES {
-        match take_turn(state, store, outbox, log, script, at) {
-            Turn::On(next) => at = next,
-            Turn::Over => return true,
-            Turn::Unwritten => return false,
-        }
+        let Some(next) = take_turn(state, store, outbox, log, script, at)? else {
+            return Ok(());
+        };
+        at = next;
     }
-    true
+    Ok(())
 }
 
 fn main() {
@@ -53,10 +53,10 @@ fn main() {
     let mut outbox = [0u8; OUTBOX_BYTES];
     let mut log = [0u8; LOG_BYTES];
     let mut input = [0u8; INPUT_BYTES];
-    state::fresh(&mut state);
+    state::make_fresh(&mut state);
     let n = io::read_full(STDIN, &mut input);
     let written = run_all(&mut state, &mut store, &mut outbox, &mut log, &input[..n]);
-    if !written {
+    if written.is_err() {
         io::write_all(STDERR, b"shinepod: the log could not be written\n");
     }
 }

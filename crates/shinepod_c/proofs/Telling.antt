@@ -19,7 +19,8 @@ use Rattle.model.specs.Kernel.{fresh}
 use Rattle.model.specs.Lent.{Areas, Went, lent_step, lent_record}
 use Rattle.script.specs.Body.{field_at, made, call_in}
 use Rattle.script.proofs.Rows.{Known}
-use Rattle.state.specs.declared.Filled.{Filled}
+use Rattle.std.specs.Prelude.{Result}
+use Rattle.state.specs.declared.WrongLength.{WrongLength}
 use Rattle.state.specs.Fresh.{Filling, fresh_words}
 use Rattle.valid.specs.Check.{right_lengths}
 use Rattle.valid.specs.Shown.{shown_location, shown_message}
@@ -69,7 +70,7 @@ module _ (w store outbox : List ℕ) {right : Bool} (right_is : right ≡ right_
   unfolding fresh_left
   leaves-alone e = sym (ap when (sym right_is ∙ e))
 
-  pub makes-fresh : {r : Filled} {w' store' outbox' : List ℕ} → right ≡ true → Filling w r w' → store' ≡ zeros (length store)
+  pub makes-fresh : {r : Result Unit WrongLength} {w' store' outbox' : List ℕ} → right ≡ true → Filling w r w' → store' ≡ zeros (length store)
       → outbox' ≡ zeros (length outbox) → left E_OK w' store' outbox' ≡ fresh_left w store outbox
   unfolding fresh_left fresh_words fresh_lent
   makes-fresh {w' = w'} {store' = store'} {outbox' = outbox'} e f s o =

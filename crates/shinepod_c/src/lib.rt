@@ -16,7 +16,7 @@ use message::next::message_at;
 use message::region::clear;
 use model::call::Cursor;
 use model::code::{E_OK, E_SYS};
-use model::kind::{BodyLength, body_length};
+use model::kind::body_length;
 use outcome::{UNKNOWN_KIND, code_of, outcome_of, progress_code, progress_next, progress_outcome};
 use place::{area_of, start_of};
 use script::reader::call_of;
@@ -31,7 +31,8 @@ pub extern "C" fn shinepod_fresh(state: &mut [u32], store: &mut [u8], outbox: &m
     if !right_lengths(state, store, outbox) {
         return E_SYS;
     }
-    state::fresh(state);
+    // the length has been seen to be right
+    let _ = state::fresh(state);
     clear(store);
     clear(outbox);
     E_OK
@@ -55,7 +56,7 @@ pub extern "C" fn shinepod_call(
     ensures { came result code.new written.new (areas state.new store.new outbox.new log.new) ≡ call_outcome (areas state.old store.old outbox.old log.old) kind (first ∷ second ∷ third ∷ []) message.now }
 {
     // where the table of kinds has no body's length, no call has the kind
-    let BodyLength::Bytes(length) = body_length(kind) else {
+    let Some(_) = body_length(kind) else {
         *code = E_OK;
         *written = 0;
         return UNKNOWN_KIND;

@@ -9,9 +9,8 @@ use Rattle.model.specs.Lent.{Areas, Went, lent_record}
 use Rattle.text.specs.Line.{IsFront}
 use Rattle.text.specs.Turn.{turn_text}
 use Rattle.run.specs.declared.Ran.{Ran}
-use Rattle.run.specs.declared.turn.Turn.{Turn}
 use Rattle.run.specs.Runs.{Runs}
-use Rattle.run.specs.Turns.{turn_if}
+use Rattle.run.specs.Turns.{Turn, turn_if}
 use Rattle.run.proofs.Turning.{turned}
 use Rattle.show.specs.Shown.{went_text, InFront, ShowsTurn}
 

@@ -1,10 +1,12 @@
 -- All turns together hand over the text of the script. Assumes nothing.
+use Rattle.std.specs.Prelude.{Result, Ok, Err}
+use Rattle.model.specs.declared.call.Record.{Record}
+use Rattle.model.specs.declared.call.Stop.{Stop}
+use Rattle.model.specs.Record.{found, stopped}
 use Rattle.model.proofs.Terms.{ℕ, zero, suc, ◌+◌, ◌≤◌, ◌<◌, dec_le, arith, ◌≡◌, ◌∙◌, refl, sym, ap, ap₂, List, [], ◌++◌, drop, length, length-drop, ◌!◌, log_bytes, script_bytes, running, word_count, step, read_record, record_message, outcome_log, Areas, returned, script_over, went, with_log, le-ltb, lt-ltb}
 use mathlib.Core.List.{append-nil}
 use Rattle.model.specs.declared.call.Call.{Call}
 use Rattle.model.specs.declared.call.Cursor.{Cursor}
-use Rattle.model.specs.declared.call.Read.{Read}
-use Rattle.model.specs.declared.call.Read.TheVariants.{Record, Stop}
 use Rattle.model.specs.Step.{fresh_lent}
 use Rattle.model.specs.World.{Lent}
 use Rattle.model.proofs.ByCase.{record-too-long, record-end, record-stops, record-runs}
@@ -22,17 +24,17 @@ use Rattle.show.specs.Shown.{texts_from, TextsAreScript}
 
 -- the text of a script, where it stops and where a record is read
 module _ (n : ℕ) (x : Lent) (script : List ℕ) (at : ℕ) where
-  text-stops : {offset : ℕ} → read_record script at ≡ Stop offset → text_from (suc n) x script at ≡ place_line script at
+  text-stops : {offset : ℕ} → read_record script at ≡ stopped offset → text_from (suc n) x script at ≡ place_line script at
   text-stops e = rw (e, text_from)
 
-  text-goes-on : {c : Call} {next : Cursor} → read_record script at ≡ Record c next
+  text-goes-on : {c : Call} {next : Cursor} → read_record script at ≡ found c next
       → let o = step x c (record_message script at) in
       text_from (suc n) x script at ≡ (place_line script at ++ log_text (outcome_log (running x.kernel) o)) ++ text_from n o.lent script next.at
   text-goes-on e = rw (e, text_from)
 
 module _ (script : List ℕ) (short : length script ≤ script_bytes) where
   -- a record that is read ends in the script
-  ends-inside : (at : ℕ) (c : Call) (next : Cursor) → at < length script → read_record script at ≡ Record c next → next.at ≤ length script
+  ends-inside : (at : ℕ) (c : Call) (next : Cursor) → at < length script → read_record script at ≡ found c next → next.at ≤ length script
   ends-inside at c next inside e =
       let w = was_read at (script ! at) (drop (at + 1) script) c next (sym (read_at script at inside) ∙ e) in
       omega (arith, w.fits, w.end, length-drop (at + 1) script)
@@ -49,11 +51,11 @@ module _ (script : List ℕ) (short : length script ≤ script_bytes) where
   follows (suc m) zero a at inside p q long log = absurd (omega (arith, inside, q))
   follows (suc m) (suc n) a at inside p q long log = go (dec_le (length script) at) (read_record script at) refl (follows m n)
     where
-      go : Dec (length script ≤ at) → (r : Read) → read_record script at ≡ r → ((b : Areas) (i : ℕ) → Follows m n b i)
+      go : Dec (length script ≤ at) → (r : Result Record Stop) → read_record script at ≡ r → ((b : Areas) (i : ℕ) → Follows m n b i)
           → texts_from (suc m) a script at ≡ text_from (suc n) (lent_in a) script at
       go (yes h) r e rest = rw (record-end a script at log short h, text-stops n (lent_in a) script at (stop-at-end script at h)) (append-nil (place_line script at))
-      go (no h) (Stop offset) e rest = rw (record-stops a script at log short (omega arith) e, text-stops n (lent_in a) script at e) (append-nil (place_line script at))
-      go (no h) (Record c next) e rest =
+      go (no h) (Err stop) e rest = let offset = stop.offset in rw (record-stops a script at log short (omega arith) e, text-stops n (lent_in a) script at e) (append-nil (place_line script at))
+      go (no h) (Ok read) e rest = let c = read.call in let next = read.next in
           let bytes = record_message script at in
           let o = step (lent_in a) c bytes in
           let written = outcome_log (running (lent_in a).kernel) o in

@@ -8,8 +8,7 @@ use Rattle.model.specs.Lent.{Areas, Went, lent_record}
 use Rattle.history.specs.LentHistory.{lent_in}
 use Rattle.text.specs.Turn.{turn_text}
 use Rattle.text.specs.Whole.{script_text}
-use Rattle.run.specs.declared.turn.Turn.{Turn}
-use Rattle.run.specs.Turns.{Turned}
+use Rattle.run.specs.Turns.{Turn, Turned}
 
 -- the text of a turn, from what comes of the record
 abbrev pub went_text : List ℕ → ℕ → Went → List ℕ

@@ -36,11 +36,12 @@ pub fn fresh(state: &mut [u32]) -> Result<(), WrongLength>
     let Some(words) = state.as_mut_array() else {
         return Err(WrongLength);
     };
-    fill(words);
+    make_fresh(words);
     Ok(())
 }
 
-fn fill(state: &mut Words)
+// The same of an area that has a state's length.
+pub fn make_fresh(state: &mut Words)
     ensures { state.new ≡ words fresh }
 {
     *state = [0; layout::WORDS];

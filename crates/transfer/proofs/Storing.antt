@@ -47,12 +47,11 @@ module _ (b : ℕ) {used : ℕ} {s st s' st' : List ℕ} (u : used ≡ (kernel s
             record { state = rw (f, u) at r; store = rw (take-length m, u) at e; outbox = refl; log = h.log };
       }
 
-  pub takes : {n c l : ℕ} → n ≡ oldest_length (region b st) → c ≡ cost n → st' ≡ with_region b st (removed (region b st)) → l ≡ min c used
-      → Represents s' (with_used (kernel s) b (used - l)) → DoesInStore (λ w. take_oldest w b) s st s' st'
+  pub takes : {n c l : ℕ} → n ≡ oldest_length (region b st) → c ≡ cost n → st' ≡ with_region b st (removed (region b st)) → l ≡ used - c
+      → Represents s' (with_used (kernel s) b l) → DoesInStore (λ w. take_oldest w b) s st s' st'
   unfolding take_oldest with_store with_kernel
   takes {n} {c} {l} f g e m r =
-      let d : used - l ≡ used - c = rw m (omega arith) in
       record {
         does = λ outbox log at. does λ k es h.
-            record { state = rw (d, g, f, u) at r; store = e; outbox = refl; log = h.log };
+            record { state = rw (m, g, f, u) at r; store = e; outbox = refl; log = h.log };
       }

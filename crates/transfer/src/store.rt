@@ -5,7 +5,6 @@ ghost use Rattle.model.specs.Effect.{take_oldest};
 ghost use Rattle.model.specs.Words.{word_count, kernel};
 ghost use Rattle.act.specs.Held.{DoesInStore};
 
-use message::copy::least;
 use message::room::cost;
 use message::store::{store_append, store_oldest_length, store_remove};
 use model::number::BufferNumber;
@@ -30,6 +29,6 @@ pub fn take_oldest(state: &mut Words, store: &mut [u8], b: BufferNumber)
     let used = state::buffer::used(state, b) as usize;
     let gone = cost(store_oldest_length(store, b));
     store_remove(store, b);
-    let after = used - least(gone, used);
+    let after = used.saturating_sub(gone);
     state::buffer::set_used(state, b, after as u32);
 }

@@ -18,7 +18,7 @@ returns-in_default c =
     rw c.over-in_default.ensures (runs-stop _ _ _ c.if-log-ne-LOG_BYTES.false
     c.if-script-gt-SCRIPT_BYTES.false
     c.if-script-at.false
-    c.read_record-read.ensures c.in_default.is
+    c.read_record.ensures c.in_default.is
     c.log_stop.ensures)
 
 pub returns : goal.returns
@@ -27,7 +27,7 @@ returns c =
     c.if-log-ne-LOG_BYTES.false
     c.if-script-gt-SCRIPT_BYTES.false
     c.if-script-at.false
-    c.read_record-read.ensures
-    c.in-Record.is (rw
+    c.read_record.ensures
+    c.in-Ok.is (rw
     c.message.ensures at
     c.call-called.ensures)

@@ -1,5 +1,6 @@
 -- `tick_all` meets its contract: what is left are the tasks from the next one on. Assumes nothing.
 use native.Mathlib.Omega.{arith}
+use mathlib.Core.Path.{◌∙◌, sym}
 use borrow.Author.Rules.{rules}
 use Rattle.model.specs.Sizes.{tasks}
 use Rattle.time.proofs.Ticking.{ticking}
@@ -18,7 +19,7 @@ loop-n-preserved c =
     let i = c.loop-n.invariant in
     let k = c.tick_numbered-next.auto in (
       in-log-more _ (counted tasks c.loop-n.n (search rules)) i.0
-          k.state k.outbox k.log c.tick_numbered-next.ensures,
+          (long _ c.tick_numbered-next.array_long ∙ sym i.0.words) k.outbox k.log c.tick_numbered-next.ensures,
       search rules,
     )
 

@@ -2,7 +2,7 @@
 use Rattle.buffer.proofs.Sending.{waits-never, waits-unstored}
 use Rattle.buffer.proofs.send.send_waits.Goals as goal
 
-pub returns-in-Some : goal.returns-in-Task
+pub returns-in-Some : goal.returns-in-Some
 returns-in-Some c = search waits-never
 
 pub returns-in-None : goal.returns-in-None

@@ -9,7 +9,7 @@ use Rattle.reply.proofs.Refusing.{was-allowed, was-refused}
 use Rattle.call.proofs.step.valid_step.Goals as goal
 
 pub carried-requires : goal.carried-requires
-carried-requires c = record { ready = c.requires; message_value = was-allowed _ (sym c.refuse-found.ensures ∙ c.in_default.is) }
+carried-requires c = record { ready = c.requires; message_value = was-allowed c.refuse-found.ensures c.in_default.is }
 
 pub returns-in_default : goal.returns-in_default
 returns-in_default c = c.carried.ensures
@@ -17,7 +17,5 @@ returns-in_default c = c.carried.ensures
 pub returns : goal.returns
 returns c =
     step-refuses _ _ _ c.requires
-    (was-refused _ (sym c.refuse-found.ensures
-    ∙ c.in-Refused.is)
-    ∙ ap some (sym (to_z-of_z {w = w32} (search rules))))
+    (was-refused c.refuse-found.ensures c.in-Err.is ∙ ap some (sym c.code.ensures ∙ sym (to_z-of_z {w = w32} (search rules))))
     c.log_answer-at.ensures c.log_runs.ensures

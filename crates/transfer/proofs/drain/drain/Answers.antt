@@ -24,7 +24,7 @@ pub loop-n-preserved : goal.loop-n-preserved
 loop-n-preserved c =
     let l = c.loop-n in
     let left = left-more served (counted buffers l.n (search rules)) l.invariant.0 c.drain_numbered-next.ensures in
-    (left, search rules, search rules, search rules, search rules, search rules)
+    (left, search (long, rules), search (long, rules), search (long, rules), search (long, rules), search (long, rules))
 
 pub returns : goal.returns
 returns c = let l = c.loop-n in left-none served (counted-all buffers l.n (search rules)) l.invariant.0

@@ -23,7 +23,7 @@ loop-preserved c =
     let l = c.loop in
     let sender = first-sender _ _ c.first_fitting-found.ensures c.in-Some.is in
     let left = serve-next _ l.counter (search rules) l.invariant.0 sender.fits c.store_first-next.ensures in
-    (left, search rules, search rules, search rules, search rules, search rules)
+    (left, search (long, rules), search (long, rules), search (long, rules), search (long, rules), search (long, rules))
 
 pub returns : goal.returns
 returns c = let l = c.loop in serve-end _ (tasks - l.counter) (search rules) l.invariant.0

@@ -5,4 +5,4 @@ use Rattle.transfer.proofs.store.take_oldest.Goals as goal
 pub returns : goal.returns
 returns c =
     takes _ c.used-used.ensures c.store_oldest_length.ensures c.cost-gone.ensures c.store_remove.ensures
-    c.least.ensures c.set_used.ensures
+    c.saturating_sub-after.ensures c.set_used.ensures

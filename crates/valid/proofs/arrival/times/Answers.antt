@@ -1,5 +1,5 @@
 -- `times` meets its contract. The loop's invariant: those counted and those in the places that are left are all. Assumes nothing.
-use Rattle.state.proofs.WordLaws.{arrivals-long}
+use Rattle.state.proofs.WordLaws.{long, arrivals-long}
 use Rattle.valid.proofs.Arrivals.{count-all, count_fits, count-more, count-done}
 use Rattle.valid.proofs.arrival.times.Goals as goal
 
@@ -10,7 +10,7 @@ pub overflow_add-count : goal.overflow_add-count
 overflow_add-count c = search count_fits
 
 pub loop-i-preserved : goal.loop-i-preserved
-loop-i-preserved c = search (count-more, arrivals-long)
+loop-i-preserved c = search (long, count-more, arrivals-long)
 
 pub returns : goal.returns
-returns c = search (count-done, arrivals-long)
+returns c = search (long, count-done, arrivals-long)

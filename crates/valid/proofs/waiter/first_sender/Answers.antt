@@ -2,7 +2,7 @@
 use Rattle.valid.proofs.Waiters.{fits-first, fits-none}
 use Rattle.valid.proofs.waiter.first_sender.Goals as goal
 
-pub returns-in-Some : goal.returns-in-Task
+pub returns-in-Some : goal.returns-in-Some
 returns-in-Some c = fits-first _ _ c.first_fitting.ensures c.in-Some.is
 
 pub returns-in-None : goal.returns-in-None

@@ -1,7 +1,7 @@
--- `fill` meets its contract: six stores in zeros make the words of the fresh kernel, which antt computes. Assumes nothing.
+-- `make_fresh` meets its contract: six stores in zeros make the words of the fresh kernel, which antt computes. Assumes nothing.
 use Rattle.model.specs.Kernel.{fresh}
 use Rattle.model.specs.Words.{sizes, words, fields}
-use Rattle.state.proofs.fill.Goals as goal
+use Rattle.state.proofs.make_fresh.Goals as goal
 
 pub returns : goal.returns
 unfolding sizes words fields fresh
