@@ -1,7 +1,7 @@
 -- The next message of a buffer, of which a row shows the length, and the room for one of maxmsz bytes. Assumes nothing.
 use mir.Syntax.{w32}
 use mir.Val.{Fits}
-use Rattle.model.proofs.Terms.{ℕ, ◌≤◌, ◌<◌, arith, ◌≡◌, inl, inr, true, List, length, length-take, length-drop, pos, le-ltb, buffers, region_bytes, ◌!◌, saturated, Kernel, Lent, room, oldest, part, region, outbox_message, bad_number, no_such, BufferRange, valid, Valid}
+use Rattle.model.proofs.Terms.{ℕ, ◌≤◌, arith, ◌≡◌, inl, inr, true, List, length, length-take, length-drop, pos, le-ltb, buffers, region_bytes, ◌!◌, saturated, Kernel, Lent, room, oldest, part, region, outbox_message, bad_number, no_such, BufferRange, valid, Valid}
 use Rattle.message.specs.NextMessage.{message_at, located, has_buffer, next_location, next_message}
 use Rattle.message.specs.declared.next.Location.{Location}
 use Rattle.message.specs.declared.next.Location.TheVariants.{Stored, Sent, Nowhere}

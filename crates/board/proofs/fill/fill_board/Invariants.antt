@@ -1,5 +1,5 @@
 -- The loop of `fill_board`: after i turns the table is `written` of i objects. Assumes nothing.
-use Prim.Native.Nat.{◌-◌, ◌≤◌}
+use Prim.Native.Nat.{◌≤◌}
 use mathlib.Core.Path.{◌≡◌}
 use Rattle.board.specs.Table.{written}
 use Rattle.board.proofs.fill.fill_board.Given as goal
