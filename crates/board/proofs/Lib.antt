@@ -1,4 +1,3 @@
 pub mod Rule
-pub mod Refusals
 pub mod RowKinds
 pub mod Theorems

@@ -23,8 +23,8 @@ module _ {text after : List ℕ} {at next : ℕ} where
   pub dash : (n : ℕ) (cell : List ℕ) → n ≡ 0 → Appends text at (ascii "-") after next → Wrote text at (or_dash n cell) after next
   dash n cell e p = rw (eq-eqb n 0 e) (wrote p)
 
-  pub no-dash : (n : ℕ) (cell : List ℕ) → (n ≡ 0 → ⊥) → Wrote text at cell after next → Wrote text at (or_dash n cell) after next
-  no-dash n cell d p = rw (ne_eqb n 0 d) p
+  pub no_dash : (n : ℕ) (cell : List ℕ) → (n ≡ 0 → ⊥) → Wrote text at cell after next → Wrote text at (or_dash n cell) after next
+  no_dash n cell d p = rw (ne_eqb n 0 d) p
 
   -- a time by its sign, as the machine reads it back
   pub without_end : (z : ℤ) {y : ℤ} → y ≡ z → lt_z y (pos 0) ≡ true → Appends text at (ascii "endless") after next → Wrote text at (time_text z) after next

@@ -2,13 +2,12 @@
 -- Assumes nothing.
 use Prim.Native.Nat.{ℕ, suc, ◌+◌, ◌≤◌, ◌<◌}
 use native.Mathlib.Numerals.{add-one}
-use native.Mathlib.Omega.{arith}
 use mathlib.Core.Path.{◌≡◌, ◌∙◌, refl, sym, ap}
 use mathlib.Core.Bool.{Bool, true, false, ◌||◌, cond}
 use mathlib.Core.List.{List, [], ◌∷◌, ◌++◌}
 use lib.ListN.{length, get_or, drop, drop_of_length-le}
 use lib.Seq.{drop-cons}
-use Rattle.model.proofs.Terms.{any, not, eq-eqb, ne_eqb}
+use Rattle.model.proofs.Terms.{any, not, ne_eqb}
 use Rattle.status.specs.Blank.{largest_word}
 use Rattle.script.specs.Place.{Appends, Wrote}
 use Rattle.script.proofs.Appending.{none, wrote}
@@ -55,42 +54,34 @@ pub record RowsLeft {R : Type 0} (t : Table R) (rows : List R) (text₀ : List �
 pub no-row-yet : {R : Type 0} (t : Table R) (rows : List R) (text : List ℕ) (at : ℕ) → RowsLeft t rows text at false 0 text at
 no-row-yet t rows text at = record { left = λ after n w. w; long = refl }
 
-module _ {R : Type 0} {t : Table R} {rows : List R} {text₀ text : List ℕ} {at next i size : ℕ} {there : Bool} (l : RowsLeft t rows text₀ at there i text next)
-    (all : length rows ≡ size) where
-  pub row-passed : (past : R) → i < size → t.shown (get_or rows i past) ≡ false → RowsLeft t rows text₀ at there (i + 1) text next
-  row-passed past h e =
-      let inside : i < length rows = omega arith in
-      record { left = rw (add-one) (rw (drop-cons rows i past inside, e) at l.left); long = l.long }
+module _ {R : Type 0} {t : Table R} {rows : List R} {text₀ text : List ℕ} {at next i : ℕ} {there : Bool} (l : RowsLeft t rows text₀ at there i text next) where
+  -- a turn that passes a row by, and one that puts it
+  module _ {row : R} (here : row ≡ get_or rows i row) (inside : i < length rows) where
+    pub row-passed : t.shown row ≡ false → RowsLeft t rows text₀ at there (i + 1) text next
+    row-passed e = record { left = rw (add-one) (rw (drop-cons rows i row inside, ← here, e) at l.left); long = l.long }
 
-  pub row_put : (past : R) {mid after : List ℕ} {j k : ℕ} → i < size → t.shown (get_or rows i past) ≡ true → Appends text next (unless there (header t.columns)) mid j
-      → Wrote mid j (row_line t (i + 1) (get_or rows i past)) after k → length after ≡ length text
-      → RowsLeft t rows text₀ at true (i + 1) after k
-  row_put past h e p q same =
-      let inside : i < length rows = omega arith in
-      record {
-        left = rw (add-one) (left-more (left-more (rw (drop-cons rows i past inside, e) at l.left) (wrote p)) (rw (add-one) at q));
-        long = same ∙ l.long;
-      }
+    pub row_put : {mid after : List ℕ} {j k : ℕ} → t.shown row ≡ true → Appends text next (unless there (header t.columns)) mid j
+        → Wrote mid j (row_line t (i + 1) row) after k → length after ≡ length text
+        → RowsLeft t rows text₀ at true (i + 1) after k
+    row_put e p q same =
+        record {
+          left = rw (add-one) (left-more (left-more (rw (drop-cons rows i row inside, ← here, e) at l.left) (wrote p)) (rw (add-one) at q));
+          long = same ∙ l.long;
+        }
 
-  pub table-put : {after : List ℕ} {k : ℕ} → size ≤ i → Appends text next (unless there (ascii t.nothing)) after k → Wrote text₀ at (table_text t rows) after k
+  pub table-put : {after : List ℕ} {k : ℕ} → length rows ≤ i → Appends text next (unless there (ascii t.nothing)) after k → Wrote text₀ at (table_text t rows) after k
   unfolding table_text
-  table-put h p =
-      let done : length rows ≤ i = omega arith in
-      rw (sym (all-rows t 1 rows)) (l.left _ _ (rw (drop_of_length-le rows {i = i} done) (wrote p)))
+  table-put done p = rw (sym (all-rows t 1 rows)) (l.left _ _ (rw (drop_of_length-le rows {i = i} done) (wrote p)))
 
 -- ---- a line that stands only where none is there yet
 
 module _ {text : List ℕ} {at : ℕ} (line : List ℕ) {there : Bool} where
-  pub there-already : there ≡ true → Appends text at (unless there line) text at
-  there-already e = rw e (none text at)
+  pub there_already : there ≡ true → Appends text at (unless there line) text at
+  there_already e = rw e (none text at)
 
   pub not_there : {after : List ℕ} {next : ℕ} → there ≡ false → Appends text at line after next → Appends text at (unless there line) after next
   not_there e p = rw e p
 
--- ---- which rows are shown, from the field that says so
-
-pub blank : {word : ℕ} → word ≡ largest_word → written word ≡ false
-blank e = ap not (eq-eqb _ _ e)
-
+-- a row whose field is not the largest word is shown
 pub not-blank : {word : ℕ} → (word ≡ largest_word → ⊥) → written word ≡ true
 not-blank d = ap not (ne_eqb _ _ d)

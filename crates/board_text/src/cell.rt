@@ -7,6 +7,7 @@ use script::place::put;
 use status::row::{TTS_DMT, TTS_RDY, TTS_RUN, TTS_WAI};
 use text::number::{put_number, put_signed};
 
+// Kinds and states are numbers here, as in the rows, which C sees.
 const MUTEX: u32 = CRE_MTX as u32;
 
 const BUFFER: u32 = CRE_MBF as u32;
@@ -49,6 +50,7 @@ fn put_object(text: &mut [u8], at: usize, kind: u32) -> usize
     }
 }
 
+#[tactic(auto, using(crate::proofs::Cells::dash, crate::proofs::Cells::no_dash), unfolding(crate::specs::Cell::awaited_text))]
 fn put_awaited(text: &mut [u8], at: usize, kind: u32, object: u32) -> usize
     ensures { Wrote text.old at (awaited_text kind object) text.new result }
 {
@@ -59,6 +61,7 @@ fn put_awaited(text: &mut [u8], at: usize, kind: u32, object: u32) -> usize
     put_number(text, next, object as usize)
 }
 
+#[tactic(auto, using(crate::proofs::Cells::dash, crate::proofs::Cells::no_dash), unfolding(crate::specs::Cell::task_text))]
 fn put_task(text: &mut [u8], at: usize, task: u32) -> usize
     ensures { Wrote text.old at (task_text task) text.new result }
 {
@@ -69,6 +72,7 @@ fn put_task(text: &mut [u8], at: usize, task: u32) -> usize
     put_number(text, next, task as usize)
 }
 
+#[tactic(auto, using(crate::proofs::Cells::dash, crate::proofs::Cells::no_dash), unfolding(crate::specs::Cell::length_text))]
 fn put_length(text: &mut [u8], at: usize, n: u32) -> usize
     ensures { Wrote text.old at (length_text n) text.new result }
 {
@@ -91,6 +95,7 @@ fn put_time(text: &mut [u8], at: usize, left: i32) -> usize
     put(text, next, b" ms")
 }
 
+#[tactic(auto, using(crate::proofs::Cells::told), unfolding(crate::specs::Cell::cell_text))]
 pub(crate) fn put_content(text: &mut [u8], at: usize, cell: Cell) -> usize
     ensures { Wrote text.old at (cell_text cell) text.new result }
 {

@@ -1,5 +1,5 @@
 // How a cell stands in its column.
-ghost use Rattle.std.specs.Prelude.{◌-◌, ◌≡◌};
+ghost use Rattle.std.specs.Prelude.{◌-◌};
 ghost use Rattle.script.specs.Place.{Wrote};
 ghost use Rattle.board_text.specs.Cell.{cell_text};
 ghost use Rattle.board_text.specs.Column.{spaces, in_column};
@@ -22,19 +22,10 @@ fn put_spaces(text: &mut [u8], at: usize, n: usize) -> usize
     ensures { Wrote text.old at (spaces n) text.new result }
 {
     let mut next = at;
-    let mut i = 0;
-    while i < n {
+    for _ in 0..n {
         next = put(text, next, b" ");
-        i += 1;
     }
     next
-}
-
-// How much a cell lacks to be as wide as its column.
-fn lacking(width: usize, n: usize) -> usize
-    ensures { result ≡ width - n }
-{
-    if width < n { 0 } else { width - n }
 }
 
 fn put_in_column(text: &mut [u8], at: usize, column: Column, cell: &[u8]) -> usize
@@ -42,13 +33,13 @@ fn put_in_column(text: &mut [u8], at: usize, column: Column, cell: &[u8]) -> usi
 {
     match column {
         Column::Right(width) => {
-            let next = put_spaces(text, at, lacking(width, cell.len()));
+            let next = put_spaces(text, at, width.saturating_sub(cell.len()));
             let next = put(text, next, cell);
             put(text, next, b"  ")
         }
         Column::Left(width) => {
             let next = put(text, at, cell);
-            let next = put_spaces(text, next, lacking(width, cell.len()));
+            let next = put_spaces(text, next, width.saturating_sub(cell.len()));
             put(text, next, b"  ")
         }
         Column::Last => {

@@ -1,35 +1,33 @@
 // The table of mutexes.
-ghost use Rattle.script.specs.Place.{Wrote};
-ghost use Rattle.board_text.specs.Table.{row_line, table_text};
 ghost use Rattle.board_text.specs.Tables.{mutex_table};
 
 use super::cell::Cell;
 use super::column::{Column, put_cell};
-use super::table::put_unless;
-use model::sizes::{LARGEST_WORD, MUTEXES};
+use super::table::Tabled;
+use model::sizes::LARGEST_WORD;
 use status::row::MutexRow;
 
-fn put_row(text: &mut [u8], at: usize, n: u32, row: MutexRow) -> usize
-    ensures { Wrote text.old at (row_line mutex_table n row) text.new result }
-{
-    let next = put_cell(text, at, Column::Right(5), Cell::Number(n));
-    let next = put_cell(text, next, Column::Left(7), Cell::Task(row.holder));
-    put_cell(text, next, Column::Last, Cell::Task(row.waiter))
-}
+impl Tabled for MutexRow {
+    ghost table = { mutex_table };
 
-pub(crate) fn put_mutexes(text: &mut [u8], at: usize, rows: [MutexRow; MUTEXES as usize]) -> usize
-    ensures { Wrote text.old at (table_text mutex_table rows) text.new result }
-{
-    let mut next = at;
-    let mut any = false;
-    for i in 0..MUTEXES as usize {
-        let row = rows[i];
-        if row.holder == LARGEST_WORD {
-            continue;
-        }
-        let first = put_unless(text, next, any, b"mutex  holder   first waiter\n");
-        next = put_row(text, first, i as u32 + 1, row);
-        any = true;
+    #[tactic(auto, unfolding(crate::specs::Column::in_column, crate::specs::Tables::mutex_table))]
+    fn header() -> &'static [u8] {
+        b"mutex  holder   first waiter\n"
     }
-    put_unless(text, next, any, b"no mutexes\n")
+
+    #[tactic(auto, unfolding(crate::specs::Tables::mutex_table))]
+    fn nothing() -> &'static [u8] {
+        b"no mutexes\n"
+    }
+
+    #[tactic(auto, unfolding(crate::specs::Tables::mutex_table))]
+    fn shown(self) -> bool {
+        self.holder != LARGEST_WORD
+    }
+
+    fn put_row(self, text: &mut [u8], at: usize, n: u32) -> usize {
+        let next = put_cell(text, at, Column::Right(5), Cell::Number(n));
+        let next = put_cell(text, next, Column::Left(7), Cell::Task(self.holder));
+        put_cell(text, next, Column::Last, Cell::Task(self.waiter))
+    }
 }

@@ -1,48 +1,41 @@
 // The table of tasks.
-ghost use Rattle.script.specs.Place.{Wrote};
-ghost use Rattle.board_text.specs.Table.{row_line, table_text};
 ghost use Rattle.board_text.specs.Tables.{task_table};
 
 use super::cell::Cell;
 use super::column::{Column, put_cell};
-use super::table::put_unless;
-use model::sizes::{LARGEST_WORD, TASKS};
+use super::table::Tabled;
+use model::sizes::LARGEST_WORD;
 use status::row::TaskRow;
 
-fn put_row(text: &mut [u8], at: usize, n: u32, row: TaskRow) -> usize
-    ensures { Wrote text.old at (row_line task_table n row) text.new result }
-{
-    let next = put_cell(text, at, Column::Right(4), Cell::Number(n));
-    let next = put_cell(text, next, Column::Left(7), Cell::State(row.state));
-    let next = put_cell(text, next, Column::Right(4), Cell::Number(row.base));
-    let next = put_cell(text, next, Column::Right(7), Cell::Number(row.current));
-    let next = put_cell(
-        text,
-        next,
-        Column::Left(9),
-        Cell::Awaited(row.kind, row.object),
-    );
-    put_cell(text, next, Column::Last, Cell::Time(row.left))
-}
+impl Tabled for TaskRow {
+    ghost table = { task_table };
 
-pub(crate) fn put_tasks(text: &mut [u8], at: usize, rows: [TaskRow; TASKS as usize]) -> usize
-    ensures { Wrote text.old at (table_text task_table rows) text.new result }
-{
-    let mut next = at;
-    let mut any = false;
-    for i in 0..TASKS as usize {
-        let row = rows[i];
-        if row.state == LARGEST_WORD {
-            continue;
-        }
-        let first = put_unless(
+    #[tactic(auto, unfolding(crate::specs::Column::in_column, crate::specs::Tables::task_table))]
+    fn header() -> &'static [u8] {
+        b"task  state    base  current  waits for  time left\n"
+    }
+
+    #[tactic(auto, unfolding(crate::specs::Tables::task_table))]
+    fn nothing() -> &'static [u8] {
+        b"no tasks\n"
+    }
+
+    #[tactic(auto, unfolding(crate::specs::Tables::task_table))]
+    fn shown(self) -> bool {
+        self.state != LARGEST_WORD
+    }
+
+    fn put_row(self, text: &mut [u8], at: usize, n: u32) -> usize {
+        let next = put_cell(text, at, Column::Right(4), Cell::Number(n));
+        let next = put_cell(text, next, Column::Left(7), Cell::State(self.state));
+        let next = put_cell(text, next, Column::Right(4), Cell::Number(self.base));
+        let next = put_cell(text, next, Column::Right(7), Cell::Number(self.current));
+        let next = put_cell(
             text,
             next,
-            any,
-            b"task  state    base  current  waits for  time left\n",
+            Column::Left(9),
+            Cell::Awaited(self.kind, self.object),
         );
-        next = put_row(text, first, i as u32 + 1, row);
-        any = true;
+        put_cell(text, next, Column::Last, Cell::Time(self.left))
     }
-    put_unless(text, next, any, b"no tasks\n")
 }

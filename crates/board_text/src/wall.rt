@@ -5,17 +5,15 @@ ghost use Rattle.text.specs.Line.{IsFront};
 ghost use Rattle.text.specs.Turn.{text_bytes};
 ghost use Rattle.board_text.specs.Wall.{tables_text, wall_text};
 
-use super::buffer::put_buffers;
-use super::mutex::put_mutexes;
-use super::pool::put_pools;
-use super::task::put_tasks;
+use super::table::put_table;
 use model::call::Progress;
 use model::sizes::{BUFFERS, MUTEXES, POOLS, TASKS};
 use script::place::put;
 use status::row::{BufferRow, MutexRow, PoolRow, TaskRow};
 use text::turn::turn_text;
 
-// The four tables, an empty line between them.
+// The four tables, an empty line between them. They stay four parameters, each as `board::table` gives it: docs/WALL.md names
+// `put_wall`, and these two functions alone take them.
 pub fn put_tables(
     text: &mut [u8],
     at: usize,
@@ -26,13 +24,13 @@ pub fn put_tables(
 ) -> usize
     ensures { Wrote text.old at (tables_text tasks mutexes buffers pools) text.new result }
 {
-    let next = put_tasks(text, at, tasks);
+    let next = put_table(text, at, &tasks);
     let next = put(text, next, b"\n");
-    let next = put_mutexes(text, next, mutexes);
+    let next = put_table(text, next, &mutexes);
     let next = put(text, next, b"\n");
-    let next = put_buffers(text, next, buffers);
+    let next = put_table(text, next, &buffers);
     let next = put(text, next, b"\n");
-    put_pools(text, next, pools)
+    put_table(text, next, &pools)
 }
 
 // At the front of the area: the line that `show` writes last, of the place where a script ends or stops, and the tables. All of it fits.

@@ -1,7 +1,7 @@
 -- The next message of a buffer, of which a row shows the length, and the room for one of maxmsz bytes. Assumes nothing.
 use mir.Syntax.{w32}
 use mir.Val.{Fits}
-use Rattle.model.proofs.Terms.{ℕ, suc, ◌≤◌, ◌<◌, arith, ◌≡◌, inl, inr, true, List, length, length-take, length-drop, pos, le-ltb, buffers, region_bytes, ◌!◌, saturated, Kernel, Lent, room, oldest, part, region, outbox_message, bad_number, no_such, BufferRange, valid, Valid}
+use Rattle.model.proofs.Terms.{ℕ, ◌≤◌, arith, ◌≡◌, inl, inr, true, List, length, length-take, length-drop, pos, le-ltb, buffers, region_bytes, ◌!◌, saturated, Kernel, Lent, room, oldest, part, region, outbox_message, bad_number, no_such, BufferRange, valid, Valid}
 use Rattle.message.specs.NextMessage.{message_at, located, has_buffer, next_location, next_message}
 use Rattle.message.specs.declared.next.Location.{Location}
 use Rattle.message.specs.declared.next.Location.TheVariants.{Stored, Sent, Nowhere}
@@ -26,22 +26,22 @@ module _ (at : Location) (s o : List ℕ) {m : List ℕ} (e : m ≡ message_at a
 
 -- ---- a buffer that exists in a valid state
 
-module _ (x : Lent) (i : ℕ) (inside : i < buffers) where
+module _ (x : Lent) (b : ℕ) (low : 1 ≤ b) (high : b ≤ buffers) where
   -- its next message is shown
-  pub next-shown : valid x ≡ true → is_there x.kernel.buffers.exists (suc i) ≡ true
-      → next_message x (pos (suc i)) ≡ message_at (located x.kernel (suc i)) x.store x.outbox
+  pub next-shown : valid x ≡ true → is_there x.kernel.buffers.exists b ≡ true
+      → next_message x (pos b) ≡ message_at (located x.kernel b) x.store x.outbox
   unfolding next_message next_location has_buffer bad_number no_such is_there
-  next-shown sound there = rw (sound, le-ltb (suc i) 1 (omega arith), le-ltb buffers (suc i) inside, there)
+  next-shown sound there = rw (sound, le-ltb b 1 low, le-ltb buffers b high, there)
 
   -- no more bytes are used than it has
-  pub used-inside : Valid x → x.kernel.buffers.used ! suc i ≤ x.kernel.buffers.bufsz ! suc i
+  pub used-inside : Valid x → x.kernel.buffers.used ! b ≤ x.kernel.buffers.bufsz ! b
   unfolding BufferRange
-  used-inside v = elim (v.is_buffer_range (suc i) (omega arith) inside) [ inl h ↦ omega (arith, h.4) | inr h ↦ h.4 ]
+  used-inside v = elim (v.is_buffer_range b low high) [ inl h ↦ omega (arith, h.4) | inr h ↦ h.4 ]
 
   -- 32 bits hold the room for a message of maxmsz bytes
   pub room-shown : Valid x → let k = x.kernel.buffers in
-      saturated (room (k.bufsz ! suc i) (k.used ! suc i) (k.maxmsz ! suc i)) ≡ room (k.bufsz ! suc i) (k.used ! suc i) (k.maxmsz ! suc i)
+      saturated (room (k.bufsz ! b) (k.used ! b) (k.maxmsz ! b)) ≡ room (k.bufsz ! b) (k.used ! b) (k.maxmsz ! b)
   unfolding BufferRange
   room-shown v =
-      room-is-exact x v (suc i) (omega arith) inside (x.kernel.buffers.maxmsz ! suc i)
-      (elim (v.is_buffer_range (suc i) (omega arith) inside) [ inl h ↦ omega (arith, h.3) | inr h ↦ h.3.1 ])
+      room-is-exact x v b low high (x.kernel.buffers.maxmsz ! b)
+      (elim (v.is_buffer_range b low high) [ inl h ↦ omega (arith, h.3) | inr h ↦ h.3.1 ])

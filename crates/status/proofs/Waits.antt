@@ -1,13 +1,8 @@
 -- What a row shows of a task's wait. In a valid state a task that does not wait has nothing of a wait in its fields, so the fields are shown as
 -- they are. Assumes nothing.
-use Rattle.model.proofs.Terms.{ℕ, suc, ◌^◌, ◌<◌, arith, ◌≡◌, refl, sym, ◌≢◌, inl, inr, Bool, true, false, ◌||◌, cond, eqb, eqb-true, eqb-false, tasks, endless, ◌!◌, locking, sending, receiving, getting, Kernel, Lent, TaskRange, Wait, Valid}
+use Rattle.model.proofs.Terms.{ℕ, ◌≤◌, arith, ◌≡◌, refl, sym, inl, inr, Bool, true, false, ◌||◌, cond, eqb, eqb-true, eqb-false, tasks, ◌!◌, locking, sending, receiving, getting, Kernel, Lent, TaskRange, Wait, Valid}
 use Rattle.model.proofs.ListLaws.{by-test}
 use Rattle.status.specs.Rows.{awaited_kind, awaited_object, shown_time, time_left, TimeFits}
-
--- a time that ends is a signed number
-pub time-small : (n : ℕ) → TimeFits n → n ≢ endless → n < 2 ^ 31
-time-small n (inl h) d = omega arith
-time-small n (inr e) d = absurd (d e)
 
 -- the kind is 0 where none of the tests holds
 none-holds : (a b c d : Bool) → ◌≡◌ {A = ℕ} (cond a 0x10 (cond (b || c) 0x20 (cond d 0x30 0))) 0 → (a ≡ false) × (b ≡ false) × (c ≡ false) × (d ≡ false)
@@ -17,18 +12,15 @@ none-holds false false true d e = absurd (omega arith)
 none-holds false false false true e = absurd (omega arith)
 none-holds false false false false e = (refl, refl, refl, refl)
 
-module _ (x : Lent) (v : Valid x) (i : ℕ) (inside : i < tasks) where
+module _ (x : Lent) (v : Valid x) (t : ℕ) (low : 1 ≤ t) (high : t ≤ tasks) where
   abbrev k : Kernel
   k = x.kernel
 
-  abbrev t : ℕ
-  t = suc i
-
   range : TaskRange k t
-  range = v.is_task_range t (omega arith) inside
+  range = v.is_task_range t low high
 
   wait : Wait k t
-  wait = v.is_wait t (omega arith) inside
+  wait = v.is_wait t low high
 
   -- every place of a wait has a kind
   idle : awaited_kind k t ≡ 0 → (k.tasks.object ! t ≡ 0) × (k.tasks.left ! t ≡ 0)

@@ -81,9 +81,9 @@ pool_row k p = record { free = free k.pools p; waiter = queue_front k (queue get
 
 -- ---- what the functions that make a row ask
 
--- when a row is asked for: what is lent is valid, and the row, counted from 0, is that of an object that exists
-abbrev pub Asked : ℕ → (ℕ → Bool) → List ℕ → List ℕ → List ℕ → ℕ → Type 0
-Asked objects exists words store outbox i = (is_valid words store outbox ≡ true) × (i < objects) × (exists (suc i) ≡ true)
+-- when a row is asked for: what is lent is valid, and the number is that of an object that exists
+abbrev pub AskedOf : ℕ → (ℕ → Bool) → List ℕ → List ℕ → List ℕ → ℕ → Type 0
+AskedOf objects exists words store outbox n = (is_valid words store outbox ≡ true) × (1 ≤ n) × (n ≤ objects) × (exists n ≡ true)
 
 -- a time that a row can hold
 abbrev pub TimeFits : ℕ → Type 0

@@ -1,7 +1,6 @@
 // The status of an object, as the manual's tk_ref calls give it: the rows of the tables that `board` fills, and what each holds.
 #![tactic(auto)]
 
-pub mod blank;
 pub mod buffer;
 pub mod mutex;
 pub mod pool;

@@ -1,41 +1,47 @@
 // The row of a mutex.
-ghost use Rattle.std.specs.Prelude.{suc, ◌<◌, ◌≡◌, length};
+ghost use Rattle.std.specs.Prelude.{◌≡◌};
 ghost use Rattle.model.specs.Sizes.{mutexes};
-ghost use Rattle.model.specs.Words.{word_count, kernel};
-ghost use Rattle.status.specs.Rows.{Asked, is_there, mutex_row};
+ghost use Rattle.model.specs.Words.{kernel};
+ghost use Rattle.status.specs.Blank.{blank_mutex};
+ghost use Rattle.status.specs.Rows.{AskedOf, is_there, mutex_row};
 
-use state::layout::Words;
-use super::row::MutexRow;
+use super::row::{MutexRow, Row};
 use super::waiter::first_of;
-use model::number::MutexNumber;
+use model::number::{Mutex, MutexNumber};
+use model::sizes::LARGEST_WORD;
+use state::layout::Words;
 use state::task::LOCKING;
 
-// Whether there is a mutex whose row, counted from 0, is row i.
-pub fn is_there(state: &Words, i: usize) -> bool
-    requires { i < mutexes }
-    ensures { result ≡ is_there (kernel state.now).mutexes.exists (suc i) }
-{
-    let found = MutexNumber::from_word(i as u32 + 1);
-    let Some(m) = found else {
-        return false;
-    };
-    state::mutex::exists(state, m) != 0
-}
+#[tactic(auto, unfolding(crate::specs::Rows::is_there, crate::specs::Rows::mutex_row))]
+impl Row for MutexRow {
+    ghost exists = { λ w. is_there (kernel w).mutexes.exists };
 
-// The row of the mutex whose row, counted from 0, is row i.
-pub fn row(state: &Words, store: &[u8], outbox: &[u8], i: usize) -> MutexRow
-    requires { Asked mutexes (is_there (kernel state.now).mutexes.exists) state.now store.now outbox.now i }
-    ensures { result ≡ mutex_row (kernel state.now) (suc i) }
-{
-    let found = MutexNumber::from_word(i as u32 + 1);
-    let Some(m) = found else {
-        return MutexRow {
-            holder: 0,
-            waiter: 0,
-        };
-    };
-    MutexRow {
-        holder: state::mutex::holder(state, m),
-        waiter: first_of(state, LOCKING, m.word()),
+    ghost row_of = { λ w store outbox. mutex_row (kernel w) };
+
+    ghost blank = { blank_mutex };
+
+    type Of = Mutex;
+
+    fn exists(state: &Words, m: MutexNumber) -> bool
+        ensures { result ≡ is_there (kernel state.now).mutexes.exists m.0 }
+    {
+        state::mutex::exists(state, m) != 0
+    }
+
+    fn row(state: &Words, store: &[u8], outbox: &[u8], m: MutexNumber) -> MutexRow
+        requires { AskedOf mutexes (is_there (kernel state.now).mutexes.exists) state.now store.now outbox.now m.0 }
+        ensures { result ≡ mutex_row (kernel state.now) m.0 }
+    {
+        MutexRow {
+            holder: state::mutex::holder(state, m),
+            waiter: first_of(state, LOCKING, m.word()),
+        }
+    }
+
+    fn blank() -> MutexRow {
+        MutexRow {
+            holder: LARGEST_WORD,
+            waiter: LARGEST_WORD,
+        }
     }
 }

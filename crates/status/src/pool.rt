@@ -1,27 +1,17 @@
 // The row of a pool.
-ghost use Rattle.std.specs.Prelude.{suc, ◌<◌, ◌≡◌, length};
+ghost use Rattle.std.specs.Prelude.{◌≡◌};
 ghost use Rattle.model.specs.Sizes.{pools};
-ghost use Rattle.model.specs.Words.{word_count, kernel};
+ghost use Rattle.model.specs.Words.{kernel};
 ghost use Rattle.pool_account.specs.Statements.{free};
-ghost use Rattle.status.specs.Rows.{Asked, is_there, pool_row};
+ghost use Rattle.status.specs.Blank.{blank_pool};
+ghost use Rattle.status.specs.Rows.{AskedOf, is_there, pool_row};
 
-use state::layout::Words;
-use super::row::PoolRow;
+use super::row::{PoolRow, Row};
 use super::waiter::first_of;
-use model::number::PoolNumber;
+use model::number::{Pool, PoolNumber};
+use model::sizes::LARGEST_WORD;
+use state::layout::Words;
 use state::task::GETTING;
-
-// Whether there is a pool whose row, counted from 0, is row i.
-pub fn is_there(state: &Words, i: usize) -> bool
-    requires { i < pools }
-    ensures { result ≡ is_there (kernel state.now).pools.exists (suc i) }
-{
-    let found = PoolNumber::from_word(i as u32 + 1);
-    let Some(p) = found else {
-        return false;
-    };
-    state::pool::exists(state, p) != 0
-}
 
 // How many blocks are free.
 fn free_count(state: &Words, p: PoolNumber) -> u32
@@ -38,17 +28,36 @@ fn free_count(state: &Words, p: PoolNumber) -> u32
     free
 }
 
-// The row of the pool whose row, counted from 0, is row i.
-pub fn row(state: &Words, store: &[u8], outbox: &[u8], i: usize) -> PoolRow
-    requires { Asked pools (is_there (kernel state.now).pools.exists) state.now store.now outbox.now i }
-    ensures { result ≡ pool_row (kernel state.now) (suc i) }
-{
-    let found = PoolNumber::from_word(i as u32 + 1);
-    let Some(p) = found else {
-        return PoolRow { free: 0, waiter: 0 };
-    };
-    PoolRow {
-        free: free_count(state, p),
-        waiter: first_of(state, GETTING, p.word()),
+#[tactic(auto, unfolding(crate::specs::Rows::is_there, crate::specs::Rows::pool_row))]
+impl Row for PoolRow {
+    ghost exists = { λ w. is_there (kernel w).pools.exists };
+
+    ghost row_of = { λ w store outbox. pool_row (kernel w) };
+
+    ghost blank = { blank_pool };
+
+    type Of = Pool;
+
+    fn exists(state: &Words, p: PoolNumber) -> bool
+        ensures { result ≡ is_there (kernel state.now).pools.exists p.0 }
+    {
+        state::pool::exists(state, p) != 0
+    }
+
+    fn row(state: &Words, store: &[u8], outbox: &[u8], p: PoolNumber) -> PoolRow
+        requires { AskedOf pools (is_there (kernel state.now).pools.exists) state.now store.now outbox.now p.0 }
+        ensures { result ≡ pool_row (kernel state.now) p.0 }
+    {
+        PoolRow {
+            free: free_count(state, p),
+            waiter: first_of(state, GETTING, p.word()),
+        }
+    }
+
+    fn blank() -> PoolRow {
+        PoolRow {
+            free: LARGEST_WORD,
+            waiter: LARGEST_WORD,
+        }
     }
 }

@@ -82,7 +82,8 @@ fn main() {
     let mut log = [0u8; LOG_BYTES];
     let mut text = [0u8; TEXT_BYTES];
     let mut input = [0u8; INPUT_BYTES];
-    state::fresh(&mut state);
+    // the array has as many words as a state
+    let _ = state::fresh(&mut state);
     let n = io::read_full(STDIN, &mut input);
     let shown = run_and_show(
         &mut state,

@@ -4,18 +4,6 @@ use Rattle.text.proofs.Naming.{arm, last_arm}
 use Rattle.board_text.specs.Cell.{objects, object_name}
 use Rattle.board_text.proofs.cell.put_object.Goals as goal
 
-pub put-requires : goal.put-requires
-unfolding object_name
-put-requires c = search rules
-
-pub put-requires-in-32 : goal.put-requires-in-32
-unfolding object_name
-put-requires-in-32 c = search rules
-
-pub put-requires-in-48 : goal.put-requires-in-48
-unfolding object_name
-put-requires-in-48 c = search rules
-
 pub returns-in-16 : goal.returns-in-16
 unfolding object_name
 returns-in-16 c = arm objects c.in-16.is c.put.ensures

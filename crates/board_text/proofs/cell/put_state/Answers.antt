@@ -4,22 +4,6 @@ use Rattle.text.proofs.Naming.{arm, last_arm}
 use Rattle.board_text.specs.Cell.{states, state_name}
 use Rattle.board_text.proofs.cell.put_state.Goals as goal
 
-pub put-requires : goal.put-requires
-unfolding state_name
-put-requires c = search rules
-
-pub put-requires-in-2 : goal.put-requires-in-2
-unfolding state_name
-put-requires-in-2 c = search rules
-
-pub put-requires-in-4 : goal.put-requires-in-4
-unfolding state_name
-put-requires-in-4 c = search rules
-
-pub put-requires-in-16 : goal.put-requires-in-16
-unfolding state_name
-put-requires-in-16 c = search rules
-
 pub returns-in-1 : goal.returns-in-1
 unfolding state_name
 returns-in-1 c = arm states c.in-1.is c.put.ensures

@@ -1,13 +1,9 @@
 -- `put_task` meets its contract. Assumes nothing.
 use Rattle.script.proofs.Appending.{wrote, wrote-more}
 use Rattle.board_text.specs.Cell.{task_text}
-use Rattle.board_text.proofs.Cells.{dash, no-dash}
+use Rattle.board_text.proofs.Cells.{no_dash}
 use Rattle.board_text.proofs.cell.put_task.Goals as goal
-
-pub returns-then-task-eq0 : goal.returns-then-task-eq0
-unfolding task_text
-returns-then-task-eq0 c = dash _ _ c.if-task-eq0.true c.put.ensures
 
 pub returns : goal.returns
 unfolding task_text
-returns c = no-dash _ _ c.if-task-eq0.false (wrote-more (wrote c.put-next.ensures) (wrote c.put_number.ensures))
+returns c = no_dash _ _ c.if-task-eq0.false (wrote-more (wrote c.put-next.ensures) (wrote c.put_number.ensures))

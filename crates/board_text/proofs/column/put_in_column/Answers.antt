@@ -8,13 +8,13 @@ pub returns-in-Right : goal.returns-in-Right
 unfolding in_column
 returns-in-Right c =
     column-told _ _ c.in-Right.is
-    (wrote-more (wrote-more (rw c.lacking.ensures at c.put_spaces-next.ensures) (wrote c.put-next.ensures)) (wrote c.put.ensures))
+    (wrote-more (wrote-more (rw c.saturating_sub.ensures at c.put_spaces-next.ensures) (wrote c.put-next.ensures)) (wrote c.put.ensures))
 
 pub returns-in-Left : goal.returns-in-Left
 unfolding in_column
 returns-in-Left c =
     column-told _ _ c.in-Left.is
-    (wrote-more (wrote-more (wrote c.put-next-in-Left.ensures) (rw c.lacking-in-Left.ensures at c.put_spaces-next-in-Left.ensures)) (wrote c.put-in-Left.ensures))
+    (wrote-more (wrote-more (wrote c.put-next-in-Left.ensures) (rw c.saturating_sub-in-Left.ensures at c.put_spaces-next-in-Left.ensures)) (wrote c.put-in-Left.ensures))
 
 pub returns-in-Last : goal.returns-in-Last
 unfolding in_column

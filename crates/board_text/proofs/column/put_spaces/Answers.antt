@@ -4,13 +4,13 @@ use mathlib.Core.Path.{refl}
 use Rattle.board_text.proofs.Cells.{no-space-yet, more-spaces, all-spaces}
 use Rattle.board_text.proofs.column.put_spaces.Goals as goal
 
-pub loop-i-init : goal.loop-i-init
-loop-i-init c = (no-space-yet _ _ c.args.n, refl)
+pub loop-init : goal.loop-init
+loop-init c = (no-space-yet _ _ c.args.n, refl)
 
-pub loop-i-preserved : goal.loop-i-preserved
-loop-i-preserved c =
-    let l = c.loop-i in
-    (more-spaces c.args.n l.i l.invariant.0 c.loop-i-test.true c.put-next.ensures, search rules)
+pub loop-preserved : goal.loop-preserved
+loop-preserved c =
+    let l = c.loop in
+    (more-spaces c.args.n l.counter l.invariant.0 c.loop-test.true c.put-next.ensures, search rules)
 
 pub returns : goal.returns
-returns c = let l = c.loop-i in all-spaces c.args.n l.i l.invariant.0 c.loop-i-test.false
+returns c = let l = c.loop in all-spaces c.args.n l.counter l.invariant.0 c.loop-test.false

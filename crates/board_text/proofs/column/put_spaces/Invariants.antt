@@ -6,8 +6,8 @@ use Rattle.text.proofs.Loops.{Left}
 use Rattle.board_text.specs.Column.{spaces}
 use Rattle.board_text.proofs.column.put_spaces.Given as goal
 
-abbrev pub invariant-loop-i : goal.invariant-loop-i
-invariant-loop-i l = Left l.initial.text l.at (spaces l.n) l.text l.next (spaces (l.n - l.i)) × (length l.text ≡ length l.initial.text)
+abbrev pub invariant-loop : goal.invariant-loop
+invariant-loop l = Left l.initial.text l.at (spaces l.n) l.text l.next (spaces (l.n - l.counter)) × (length l.text ≡ length l.initial.text)
 
-abbrev pub decreases-loop-i : goal.decreases-loop-i
-decreases-loop-i l = l.n - l.i
+abbrev pub decreases-loop : goal.decreases-loop
+decreases-loop l = l.n - l.counter

@@ -6,6 +6,6 @@ use Rattle.board_text.proofs.wall.put_tables.Goals as goal
 pub returns : goal.returns
 unfolding tables_text
 returns c =
-    let two = wrote-more (wrote-more c.put_tasks-next.ensures (wrote c.put-next.ensures)) c.put_mutexes-next.ensures in
-    let three = wrote-more (wrote-more two (wrote c.put-next-2.ensures)) c.put_buffers-next.ensures in
-    wrote-more (wrote-more three (wrote c.put-next-3.ensures)) c.put_pools.ensures
+    let two = wrote-more (wrote-more c.put_table-next.ensures (wrote c.put-next.ensures)) c.put_table-next-2.ensures in
+    let three = wrote-more (wrote-more two (wrote c.put-next-2.ensures)) c.put_table-next-3.ensures in
+    wrote-more (wrote-more three (wrote c.put-next-3.ensures)) c.put_table.ensures

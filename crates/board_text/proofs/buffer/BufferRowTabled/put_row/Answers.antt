@@ -1,0 +1,16 @@
+-- `put_row` meets its contract: one cell behind the other. Assumes nothing.
+use mir.Syntax.{w32}
+use mir.Facts.{to_z-of_z}
+use borrow.Author.Rules.{rules}
+use Rattle.script.proofs.Appending.{wrote-more}
+use Rattle.board_text.specs.Tables.{buffer_table}
+use Rattle.board_text.proofs.Cells.{last-cell}
+use Rattle.board_text.proofs.buffer.BufferRowTabled.put_row.Goals as goal
+
+pub returns : goal.returns
+unfolding buffer_table
+returns c =
+    wrote-more c.put_cell-next.ensures
+    (wrote-more c.put_cell-next-2.ensures
+    (wrote-more (rw (to_z-of_z {w = w32} {z = c.args.self.room} (search rules)) at c.put_cell-next-3.ensures)
+    (wrote-more c.put_cell-next-4.ensures (wrote-more c.put_cell-next-5.ensures (last-cell c.put_cell.ensures)))))
