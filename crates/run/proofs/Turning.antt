@@ -103,9 +103,9 @@ module _ (a₀ : Areas) (script : List ℕ) (a : Areas) (at turns : ℕ) (left :
         }
 
     -- the same where the program answers by an error
-    pub cut-short : {e : Result Unit Unwritten} → IsErr e → RunsAll a₀ script b (is_ok e)
-    cut-short {e = Ok x} f = absurd (false≢true f)
-    cut-short {e = Err x} f = unwritten
+    pub cut-short : (e : Result Unit Unwritten) → IsErr e → RunsAll a₀ script b (is_ok e)
+    cut-short (Ok x) f = absurd (false≢true f)
+    cut-short (Err x) f = unwritten
 
   pub all_done : suc script_bytes ≤ turns → RunsAll a₀ script a true
   all_done enough =

@@ -12,7 +12,7 @@ loop-init c = (search rules, at_first _ _)
 pub returns-in_err-next : goal.returns-in_err-next
 returns-in_err-next c =
     let l = c.loop in
-    cut-short _ _ _ _ l.counter l.invariant.1 c.take_turn.ensures.turned c.from_residual.ensures.0
+    cut-short _ _ _ _ l.counter l.invariant.1 c.take_turn.ensures.turned _ c.from_residual.ensures.0
 
 pub returns-in_default : goal.returns-in_default
 returns-in_default c =
