@@ -1,5 +1,5 @@
 -- A number digit by digit. Assumes nothing.
-use Rattle.std.proofs.Common.{◌≡◌, ◌<◌, ◌≤◌, ℕ, suc, ◌∙◌, sym, ap, refl, arith, List, length, drop, get_or, drop-cons, add-one, drop_of_length-le, Option, Some, None, lt-ltb, le-ltb}
+use Rattle.std.proofs.Common.{◌≡◌, ◌<◌, ◌≤◌, ℕ, suc, ◌∙◌, ap, refl, List, length, drop, get_or, drop-cons, Option, Some, None, lt-ltb, le-ltb}
 use mathlib.Core.List.{[], ◌∷◌, foldl}
 use Rattle.assemble.specs.Numbers.{and_digit, with_digit, magnitude}
 

@@ -1,5 +1,5 @@
 -- Fields, one by one. Assumes nothing.
-use Rattle.std.proofs.Common.{◌≡◌, ◌<◌, ◌≤◌, ◌+◌, ◌-◌, ℕ, zero, suc, ◌∙◌, sym, ap, ap₂, refl, arith, List, ◌++◌, length, set, ℤ, Result, Ok, Err}
+use Rattle.std.proofs.Common.{◌≡◌, ◌<◌, ◌≤◌, ◌+◌, ◌-◌, ℕ, zero, suc, ◌∙◌, ap, refl, arith, List, ◌++◌, length, set, ℤ, Result, Ok, Err}
 use Rattle.std.proofs.lemmas.List.{length-set, set-append_left}
 use Rattle.assemble.specs.declared.reason.Reason.{Reason}
 use Rattle.assemble.specs.Words.{word_start, word_end, word_at}

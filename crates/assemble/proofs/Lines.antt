@@ -1,5 +1,5 @@
 -- A line's record. Assumes nothing.
-use Rattle.std.proofs.Common.{◌≡◌, ◌∙◌, refl, sym, ap, arith, ℕ, ◌+◌, ◌/◌, ◌≤◌, Bool, true, false, cond, List, [], ◌∷◌, ◌++◌, length, take, drop, ℤ, Option, Some, None, Result, Ok, Err, eqb, eq-eqb, length-take-le, take-append-drop}
+use Rattle.std.proofs.Common.{◌≡◌, ◌∙◌, refl, sym, ap, arith, ℕ, ◌+◌, ◌/◌, ◌≤◌, Bool, true, false, cond, List, [], ◌∷◌, ◌++◌, length, take, drop, ℤ, Some, None, Result, Ok, Err, eqb, eq-eqb, length-take-le, take-append-drop}
 use mathlib.Core.Option as maybe
 use mir.Syntax.{w32}
 use mir.Val.{SFits}
@@ -9,7 +9,7 @@ use Rattle.model.specs.Record.{Row, kinds, row_of, kind_of, record_bytes}
 use Rattle.model.proofs.Terms.{zeros, message_bytes}
 use Rattle.script.specs.declared.body.Body.{Body}
 use Rattle.script.specs.declared.writer.WriteError.{WriteError}
-use Rattle.script.specs.declared.writer.WriteError.TheVariants.{NoRoom, WrongMessage}
+use Rattle.script.specs.declared.writer.WriteError.TheVariants.{NoRoom}
 use Rattle.script.specs.Body.{body_parts, field_at, made, call_in}
 use Rattle.script.specs.Place.{room, placed}
 use Rattle.script.specs.Write.{message_length, wrote, rewritten, Writes}

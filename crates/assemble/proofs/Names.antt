@@ -1,5 +1,5 @@
 -- The kinds one by one. Assumes nothing.
-use Rattle.std.proofs.Common.{◌≡◌, ◌<◌, ◌≤◌, ◌+◌, ◌-◌, ℕ, suc, ◌∙◌, sym, ap, ap₂, refl, arith, Bool, true, false, cond, List, [], ◌∷◌, length, take, Option, Some, None, option_map, bytes_eq}
+use Rattle.std.proofs.Common.{◌≡◌, ◌≤◌, ◌+◌, ◌-◌, ℕ, suc, ◌∙◌, sym, ap, ap₂, refl, arith, Bool, true, false, List, ◌∷◌, length, Option, Some, None, option_map}
 use Rattle.std.specs.List.{range_with_len}
 use Rattle.std.specs.Range.{range_inclusive_len, range_inclusive_start, range_inclusive_end, range_inclusive_exhausted}
 use Rattle.core.specs.declared.iter.ranges.RangeInclusive.{RangeInclusive}

@@ -1,5 +1,5 @@
 -- A message piece by piece. Assumes nothing.
-use Rattle.std.proofs.Common.{◌≡◌, ◌<◌, ◌+◌, ◌-◌, ℕ, suc, ◌∙◌, ap, ap₂, refl, arith, Bool, List, set, Result, Ok, Err, add-one}
+use Rattle.std.proofs.Common.{◌≡◌, ◌<◌, ◌+◌, ◌-◌, ℕ, suc, ◌∙◌, ap, arith, Bool, List, set, Result, Ok, Err}
 use Rattle.assemble.specs.declared.message.Piece.{Piece}
 use Rattle.assemble.specs.declared.message.Piece.TheVariants.{Byte, End}
 use Rattle.assemble.specs.declared.reason.Reason.{Reason}

@@ -12,7 +12,7 @@ use lib.Signed.{mag}
 use lib.Dec.{eqb, ltb}
 use Rattle.model.proofs.Terms.{◌!◌, all, Fit, eq-eqb, ne_eqb, le-leb, leb-true, lt-ltb, ltb-true}
 use Rattle.text.specs.Numbers.{digit, digits_of, decimal, signed_decimal}
-use Rattle.std.specs.Prelude.{Option, Some, Result, Ok, Err, ok_or, option_and_then, bytes_eq}
+use Rattle.std.specs.Prelude.{Option, Some, Ok, ok_or, option_and_then, bytes_eq}
 use Rattle.std.specs.List.{prefix_len}
 use Rattle.assemble.specs.declared.reason.Reason.TheVariants.{NotANumber}
 use Rattle.assemble.specs.Words.{is_blank, ends_word, word_start, word_length, word_end, word_at, is_over}

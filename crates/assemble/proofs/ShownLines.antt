@@ -17,7 +17,6 @@ use Rattle.model.specs.declared.call.Call.TheVariants.{CreTsk, DelTsk, StaTsk, E
 use Rattle.model.specs.Record.{Row, kinds, row_of, body_length, field, message_here, kind_of, fields_of, FieldsFit, record_bytes}
 use Rattle.model.specs.Code.{code_bytes}
 use Rattle.model.proofs.Terms.{◌!◌, all, joined, count_from, zeros, message_bytes, le-leb}
-use Rattle.script.specs.declared.body.Body.{Body}
 use Rattle.script.specs.Body.{body_parts, call_in}
 use Rattle.script.specs.Write.{message_length}
 use Rattle.script.proofs.Rows.{row-of-parts, message-size, fields_made}

@@ -14,7 +14,7 @@ use Rattle.text.specs.Quoted.{plain, shown_byte, before, trimmed, quoted}
 use Rattle.text.specs.Place.{message_text}
 use Rattle.assemble.specs.declared.message.Piece.{Piece}
 use Rattle.assemble.specs.declared.message.Piece.TheVariants.{Byte, End}
-use Rattle.std.specs.Prelude.{Option, Some, None, Ok, Err, ok_or}
+use Rattle.std.specs.Prelude.{Option, Some, Ok, Err, ok_or}
 use Rattle.assemble.specs.declared.reason.Reason.TheVariants.{BadMessage}
 use Rattle.assemble.specs.Words.{word_start}
 use Rattle.assemble.specs.Read.{Read, read}

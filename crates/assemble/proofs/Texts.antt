@@ -1,5 +1,5 @@
 -- A text line by line. Assumes nothing.
-use Rattle.std.proofs.Common.{◌≡◌, ◌∙◌, refl, sym, ap, ap₂, arith, ℕ, suc, ◌+◌, ◌≤◌, ◌<◌, Bool, true, false, cond, List, [], ◌∷◌, ◌++◌, length, take, drop, get_or, drop-cons, Bor, Option, Some, None, drop_of_length-le, length-take-le, eqb, Result, Ok, Err}
+use Rattle.std.proofs.Common.{◌≡◌, ◌∙◌, refl, sym, ap, ap₂, arith, ℕ, suc, ◌+◌, ◌≤◌, ◌<◌, Bool, true, false, cond, List, ◌++◌, length, take, drop, get_or, drop-cons, Bor, Option, Some, None, drop_of_length-le, length-take-le, eqb, Ok, Err}
 use Rattle.std.proofs.Math.Seq.{take-paste, take-length}
 use Rattle.std.specs.Iterator.{Yields}
 use Rattle.std.specs.List.{enumerate_from}

@@ -35,6 +35,8 @@ fn hex_value(c: u8) -> Option<u8>
     Some(digit as u8)
 }
 
+// The two forms of a message: they share no more than the two digits.
+
 // Between quotes.
 #[tactic(auto, using(std::proofs::lemmas::Bool::Decides::nat_tests), unfolding(crate::specs::Messages::quoted_piece))]
 fn quoted_piece(line: &[u8], at: usize) -> Option<Piece>

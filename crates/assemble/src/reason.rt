@@ -33,6 +33,8 @@ impl From<WriteError> for Reason {
     }
 }
 
+// No `Display`: the bytes go to a place of a lent area of fixed size, and `Wrote` says exactly which.
+
 // What has more bytes than it may have.
 fn put_longer(area: &mut [u8], at: usize, what: &[u8], most: usize) -> usize
     ensures { Wrote area.old at (longer_than what.now most) area.new result }
