@@ -15,7 +15,7 @@ loop-i-init c = (ending _ _ (long _ c.told-state), omega arith, refl)
 pub end_numbered-next-requires : goal.end_numbered-next-requires
 end_numbered-next-requires c =
     let i = c.loop-i.invariant in (c.requires.each
-          c.loop-i.i c.loop-i-test.true)
+    c.loop-i.i c.loop-i-test.true)
 
 pub loop-i-preserved : goal.loop-i-preserved
 loop-i-preserved c =

@@ -32,8 +32,12 @@ ter_tsk-requires c =
 pub chg_pri-requires : goal.chg_pri-requires
 unfolding refusals
 chg_pri-requires c =
-    record { caller_value = c.requires.caller_value; le_caller = c.requires.le_caller; priority_value = made-allowed (two ChgPri _ _ c.in-ChgPri.is c.in-ChgPri.known_told-in-ChgPri-1-own.given.0.1
-          c.in-ChgPri.known_told-in-ChgPri-1-own.given.1.0.1) c.requires.allowed }
+    record {
+      caller_value = c.requires.caller_value;
+      le_caller = c.requires.le_caller;
+      priority_value = made-allowed (two ChgPri _ _ c.in-ChgPri.is c.in-ChgPri.known_told-in-ChgPri-1-own.given.0.1
+          c.in-ChgPri.known_told-in-ChgPri-1-own.given.1.0.1) c.requires.allowed;
+    }
 
 pub cre_mtx-requires : goal.cre_mtx-requires
 unfolding refusals
@@ -62,7 +66,7 @@ pub cre_mbf-requires : goal.cre_mbf-requires
 unfolding refusals
 cre_mbf-requires c =
     (made-allowed (three CreMbf _ _ _ c.in-CreMbf.is c.in-CreMbf.known_told-in-CreMbf-1-own.given.0.1 c.in-CreMbf.known_told-in-CreMbf-1-own.given.1.0.1
-          c.in-CreMbf.known_told-in-CreMbf-1-own.given.1.1.0.1) c.requires.allowed)
+    c.in-CreMbf.known_told-in-CreMbf-1-own.given.1.1.0.1) c.requires.allowed)
 
 pub del_mbf-requires : goal.del_mbf-requires
 unfolding refusals
@@ -72,8 +76,11 @@ del_mbf-requires c =
 pub snd_mbf-requires : goal.snd_mbf-requires
 unfolding refusals
 snd_mbf-requires c =
-    record { caller_value = c.requires.caller_value; message_value = made-allowed (three SndMbf _ _ _ c.in-SndMbf.is c.in-SndMbf.known_told-in-SndMbf-1-own.given.0.1 c.in-SndMbf.known_told-in-SndMbf-1-own.given.1.0.1
-          c.in-SndMbf.known_told-in-SndMbf-1-own.given.1.1.0.1) c.requires.allowed }
+    record {
+      caller_value = c.requires.caller_value;
+      message_value = made-allowed (three SndMbf _ _ _ c.in-SndMbf.is c.in-SndMbf.known_told-in-SndMbf-1-own.given.0.1 c.in-SndMbf.known_told-in-SndMbf-1-own.given.1.0.1
+          c.in-SndMbf.known_told-in-SndMbf-1-own.given.1.1.0.1) c.requires.allowed;
+    }
 
 pub rcv_mbf-requires : goal.rcv_mbf-requires
 unfolding refusals
@@ -85,7 +92,7 @@ pub cre_mpf-requires : goal.cre_mpf-requires
 unfolding refusals
 cre_mpf-requires c =
     (made-allowed (three CreMpf _ _ _ c.in-CreMpf.is c.in-CreMpf.known_told-in-CreMpf-1-own.given.0.1 c.in-CreMpf.known_told-in-CreMpf-1-own.given.1.0.1
-          c.in-CreMpf.known_told-in-CreMpf-1-own.given.1.1.0.1) c.requires.allowed)
+    c.in-CreMpf.known_told-in-CreMpf-1-own.given.1.1.0.1) c.requires.allowed)
 
 pub del_mpf-requires : goal.del_mpf-requires
 unfolding refusals
@@ -95,8 +102,11 @@ del_mpf-requires c =
 pub get_mpf-requires : goal.get_mpf-requires
 unfolding refusals
 get_mpf-requires c =
-    record { caller_value = c.requires.caller_value; timeout_value = made-allowed (two GetMpf _ _ c.in-GetMpf.is c.in-GetMpf.known_told-in-GetMpf-1-own.given.0.1 c.in-GetMpf.known_told-in-GetMpf-1-own.given.1.0.1)
-          c.requires.allowed }
+    record {
+      caller_value = c.requires.caller_value;
+      timeout_value = made-allowed (two GetMpf _ _ c.in-GetMpf.is c.in-GetMpf.known_told-in-GetMpf-1-own.given.0.1 c.in-GetMpf.known_told-in-GetMpf-1-own.given.1.0.1)
+          c.requires.allowed;
+    }
 
 pub rel_mpf-requires : goal.rel_mpf-requires
 unfolding refusals
