@@ -11,14 +11,13 @@ use Rattle.model.specs.declared.call.Progress.TheVariants as progress
 use Rattle.model.specs.Sizes.{script_bytes}
 use Rattle.model.specs.Lent.{Areas, Went, lent_record}
 use Rattle.run.specs.declared.Ran.{Ran}
-use Rattle.run.specs.declared.turn.Turn.TheVariants.{Over}
 use Rattle.run.specs.Runs.{Runs}
-use Rattle.run.specs.Turns.{turn_of}
+use Rattle.run.specs.Turns.{is_done, turn_of}
 use Rattle.run.proofs.Turning as turning
 use Rattle.wall.specs.Walled.{and_place, place_from, end_of, RunsToEnd}
 
 -- a script that is over stays where it is
-stays : (w : Went) (at : ℕ) (rest : Areas → ℕ → ℕ) (p : Progress) → w.progress ≡ p → Over ≡ turn_of p → and_place w at rest ≡ at
+stays : (w : Went) (at : ℕ) (rest : Areas → ℕ → ℕ) (p : Progress) → w.progress ≡ p → is_done ≡ turn_of p → and_place w at rest ≡ at
 stays w at rest (progress.Answered answer next) e t = absurd (let z : ◌≡◌ {A = ℕ} 0 1 = cc in omega arith)
 stays w at rest progress.Over e t = rw e
 stays w at rest progress.NoArea e t = rw e
@@ -48,7 +47,7 @@ module _ (a₀ : Areas) (script : List ℕ) (a : Areas) (at turns : ℕ) (left :
         }
 
     -- the script is over, at its end or where it stops
-    pub ends : {p : Progress} → turns < suc script_bytes → r.progress ≡ p → Over ≡ turn_of p → RunsToEnd a₀ script b at
+    pub ends : {p : Progress} → turns < suc script_bytes → r.progress ≡ p → is_done ≡ turn_of p → RunsToEnd a₀ script b at
     unfolding end_of
     ends {p} inside e t =
         let rest : turns + suc (script_bytes - turns) ≡ suc script_bytes = omega arith in

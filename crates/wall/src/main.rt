@@ -83,7 +83,7 @@ fn main() {
     let mut text = [0u8; TEXT_BYTES];
     let mut input = [0u8; INPUT_BYTES];
     // the array has as many words as a state
-    let _ = state::fresh(&mut state);
+    state::make_fresh(&mut state);
     let n = io::read_full(STDIN, &mut input);
     let shown = run_and_show(
         &mut state,
