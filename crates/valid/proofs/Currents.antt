@@ -1,12 +1,11 @@
--- A state copied word after word, and current priorities compared with those worked out afresh, task by task. Assumes nothing.
-use Prim.Native.Nat.{ℕ, zero, suc, ◌+◌, ◌≤◌, ◌<◌}
-use native.Mathlib.Numerals.{add-one}
+-- Current priorities compared with those worked out afresh, task by task. Assumes nothing.
+use Prim.Native.Nat.{ℕ, zero, suc, ◌<◌}
 use native.Mathlib.Omega.{arith}
 use mathlib.Core.Path.{◌≡◌, ◌∙◌, refl, sym, ap, ap₂}
 use mathlib.Core.Bool.{Bool, and-true}
-use mathlib.Core.List.{List, [], ◌∷◌, append-nil}
-use lib.ListN.{length, set, length-map, length-set, drop_of_length-le}
-use lib.Seq.{take_all, ext_get_or, paste, paste-zero, paste-suc}
+use mathlib.Core.List.{List, [], ◌∷◌}
+use lib.ListN.{length, length-map}
+use lib.Seq.{ext_get_or}
 use lib.Dec.{eqb}
 use Rattle.model.specs.Sizes.{tasks}
 use Rattle.model.specs.Lists.{◌!◌, all, same, up_to}
@@ -20,31 +19,6 @@ use Rattle.state.proofs.WordLaws.{bitmap-long, one_word}
 use Rattle.priority.specs.Afresh.{worked_out}
 use Rattle.valid.specs.Tests.{eq-agrees, each-agrees, same-agrees}
 use Rattle.valid.specs.Parts.{same_current}
-
--- ---- a copy, word after word: the words passed are the first's, the others as they were
-
-pub record Copied (xs ys zs : List ℕ) (n : ℕ) : Type 0 where
-  pub so : zs ≡ paste ys 0 xs n
-  pub few : n ≤ length ys
-  pub long : length zs ≡ length ys
-
-pub copy_start : (xs ys : List ℕ) → Copied xs ys ys 0
-copy_start xs ys = record { so = paste-zero ys 0 xs; few = omega arith; long = refl }
-
-module _ {xs ys zs : List ℕ} {n : ℕ} (c : Copied xs ys zs n) (l : length xs ≡ length ys) where
-  pub copy_more : n < length ys → Copied xs ys (set zs n (xs ! n)) (n + 1)
-  copy_more h =
-      record {
-        so = rw (c.so, add-one) (ap (λ (i : ℕ). set (paste ys 0 xs n) i (xs ! n)) here ∙ paste-suc ys 0 xs n 0 (omega arith) (omega arith));
-        few = omega arith;
-        long = length-set zs n (xs ! n) ∙ c.long;
-      }
-    where
-      here : n ≡ 0 + n
-      here = omega arith
-
-  pub copy_done : length ys ≤ n → zs ≡ xs
-  copy_done h = c.so ∙ rw (take_all n xs (omega arith), drop_of_length-le ys {i = 0 + n} (omega arith)) (append-nil xs)
 
 -- ---- two states' current priorities
 
@@ -64,10 +38,7 @@ effectives-long : (k : Kernel) → length (effectives (facts k)) ≡ suc tasks
 unfolding effectives
 effectives-long k = ap suc (length-map (up_to tasks) (effective (facts k)) ∙ length-count_from 1 tasks)
 
--- the words are copied, priorities are worked out on the copy, and both are compared
-pub afresh-long : (w copy : List ℕ) (n : ℕ) → copy ≡ w → length w ≡ n → length copy ≡ n
-afresh-long w copy n e h = ap length e ∙ h
-
+-- priorities are worked out on a copy, and both are compared
 pub afresh-same : (w copy : List ℕ) (afresh : Kernel) (r : Bool) → TaskLists (kernel w).tasks → copy ≡ w → afresh ≡ worked_out (kernel copy)
     → r ≡ all (same_current (kernel w) afresh) (up_to tasks) → r ≡ current_priorities (kernel w)
 unfolding current_priorities worked_out with_currents with_tasks effectives

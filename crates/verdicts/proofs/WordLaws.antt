@@ -3,8 +3,9 @@ use Prim.Native.Nat.{ℕ, zero, suc, ◌+◌, ◌*◌, ◌-◌, ◌<◌, ◌≤�
 use native.Mathlib.Omega.{arith}
 use mathlib.Core.List.{List, ◌++◌}
 use mathlib.Core.Path.{◌≡◌, ◌∙◌, refl, ap}
-use lib.ListN.{length, take, drop, length-take}
-use lib.Seq.{get_or-drop, take_at}
+use lib.ListN.{length, take, drop, set, length-take, length-set}
+use lib.Seq.{get_or-drop, take_at, ext_get_or, get_or-set_same, get_or-set_other}
+use native.Mathlib.Decide.{ℕ_discrete}
 use Rattle.model.specs.Lists.{◌!◌}
 use Rattle.verdicts.specs.Words.{word_at, words_of}
 
@@ -36,3 +37,23 @@ front n l x b h e =
     let k : length (take (n - 0) l) ≡ n = rw length-take (omega arith) in
     let q : x ≡ words_of n b = rw k at e in
     rw q (take_at (words_of n b) (drop (n - 0) l) (n - 0) (rw length-words_of (omega arith)))
+
+-- ---- words stored one after the other: those passed by are there
+
+pub record Stored (xs l : List ℕ) (i : ℕ) : Type 0 where
+  pub size : length l ≡ length xs
+  pub passed : (j : ℕ) → j < i → l ! j ≡ xs ! j
+
+pub stored-none : {xs l : List ℕ} → length l ≡ length xs → Stored xs l 0
+stored-none e = record { size = e; passed = λ j h. absurd (omega arith) }
+
+module _ {xs l : List ℕ} {i : ℕ} (s : Stored xs l i) where
+  pub stored-more : {v : ℕ} → i < length l → v ≡ xs ! i → Stored xs (set l i v) (i + 1)
+  stored-more {v} h e = record { size = length-set l i v ∙ s.size; passed = λ j low. go j low (ℕ_discrete j i) }
+    where
+      go : (j : ℕ) → j < i + 1 → Dec (j ≡ i) → set l i v ! j ≡ xs ! j
+      go j low (yes q) = rw q (get_or-set_same l i v 0 h ∙ e)
+      go j low (no d) = get_or-set_other l i j v 0 d ∙ s.passed j (omega arith)
+
+  pub stored-all : length l ≤ i → l ≡ xs
+  stored-all h = ext_get_or 0 l xs s.size (λ j low. s.passed j (omega arith))

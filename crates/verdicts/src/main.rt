@@ -5,11 +5,12 @@
 mod frame;
 mod words;
 
-// A proved loop has to end, and nothing says that the input does. So the loop counts its turns down, from a number
-// that no run uses up.
+// A proved loop has to end, and nothing says that the input does. So its turns are counted, up to a number that no run
+// uses up.
 fn main() {
-    let mut turns = u64::MAX;
-    while turns > 0 && frame::judge() {
-        turns -= 1;
+    for _ in 0..u64::MAX {
+        if !frame::judge() {
+            return;
+        }
     }
 }

@@ -18,10 +18,8 @@ fn fill(words: &mut [u32], bytes: &[u8])
     requires { 4 * length words.old ≤ length bytes.now }
     ensures { words.new ≡ words_of (length words.old) bytes.now }
 {
-    let mut i = 0;
-    while i < words.len() {
+    for i in 0..words.len() {
         words[i] = word(bytes, 4 * i);
-        i += 1;
     }
 }
 
