@@ -9,8 +9,8 @@ use Rattle.std.proofs.lemmas.Iterator.Splits.{YieldsList-from_slice_split}
 use Rattle.std.specs.Fn.{CalledAt}
 use Rattle.std.specs.Iterator.Adapters.{enumerate_source, enumerate_count, enumerate_steps}
 use Rattle.std.specs.Slice.Iter.{split_rest, split_done, split_callee, split_steps}
-use Rattle.core.specs.declared.iter.adapters.Enumerate.{Enumerate}
-use Rattle.core.specs.declared.slice.cuts.Split.{Split}
+use Rattle.std.specs.declared.iter.Enumerate.{Enumerate}
+use Rattle.std.specs.declared.slice.Split.{Split}
 use denote.Param.Members.{Mut}
 use Rattle.std.proofs.lemmas.List.FromFn.{length-enumerate_from, get_or-enumerate_from}
 use Rattle.model.proofs.Terms.{script_bytes, leb-true}
