@@ -20,7 +20,7 @@ ghost use Rattle.model.specs.Valid.{Arrivals, Priorities, Bitmap};
 ghost use Rattle.model.specs.Words.{word_count, kernel};
 ghost use Rattle.order.specs.Order.{Tasks};
 
-use model::number::{BufferNumber, MaybeBuffer, MaybeMutex, MaybeTask, MutexNumber, TaskNumber};
+use model::number::{BufferNumber, MutexNumber, TaskNumber};
 
 #[unsafe(no_mangle)]
 pub extern "C" fn timing_end_wait(
@@ -34,8 +34,8 @@ pub extern "C" fn timing_end_wait(
     requires { length state.old ≡ word_count }
 {
     match TaskNumber::from_word(t) {
-        MaybeTask::Task(n) => act::wait::end_wait(state, outbox, log, at, n, code),
-        MaybeTask::Nothing => 0,
+        Some(n) => act::wait::end_wait(state, outbox, log, at, n, code),
+        None => 0,
     }
 }
 
@@ -50,8 +50,8 @@ pub extern "C" fn timing_release(
     requires { length state.old ≡ word_count }
 {
     match MutexNumber::from_word(m) {
-        MaybeMutex::Mutex(n) => act::mutex::release(state, outbox, log, at, n),
-        MaybeMutex::Nothing => 0,
+        Some(n) => act::mutex::release(state, outbox, log, at, n),
+        None => 0,
     }
 }
 
@@ -69,8 +69,8 @@ pub extern "C" fn timing_release_settled(
     requires arrivals { Arrivals (kernel state.old) }
 {
     match MutexNumber::from_word(m) {
-        MaybeMutex::Mutex(n) => act::mutex::release_settled(state, outbox, log, at, n),
-        MaybeMutex::Nothing => 0,
+        Some(n) => act::mutex::release_settled(state, outbox, log, at, n),
+        None => 0,
     }
 }
 
@@ -85,8 +85,8 @@ pub extern "C" fn timing_become_dormant(
     requires { length state.old ≡ word_count }
 {
     match TaskNumber::from_word(t) {
-        MaybeTask::Task(n) => act::task::become_dormant(state, outbox, log, at, n),
-        MaybeTask::Nothing => 0,
+        Some(n) => act::task::become_dormant(state, outbox, log, at, n),
+        None => 0,
     }
 }
 
@@ -101,8 +101,8 @@ pub extern "C" fn timing_tick_task(
     requires { length state.old ≡ word_count }
 {
     match TaskNumber::from_word(t) {
-        MaybeTask::Task(n) => act::task::tick_task(state, outbox, log, at, n),
-        MaybeTask::Nothing => 0,
+        Some(n) => act::task::tick_task(state, outbox, log, at, n),
+        None => 0,
     }
 }
 
@@ -139,8 +139,8 @@ pub extern "C" fn timing_take_oldest(state: &mut [u32], store: &mut [u8], b: u32
     requires { length state.old ≡ word_count }
 {
     match BufferNumber::from_word(b) {
-        MaybeBuffer::Buffer(n) => transfer::store::take_oldest(state, store, n),
-        MaybeBuffer::Nothing => {}
+        Some(n) => transfer::store::take_oldest(state, store, n),
+        None => {}
     }
 }
 

@@ -19,7 +19,7 @@ ghost use Rattle.std.specs.Prelude.{◌≡◌, length};
 ghost use Rattle.model.specs.Valid.{Bitmap};
 ghost use Rattle.model.specs.Words.{word_count, kernel};
 
-use model::number::{MaybeTask, TaskNumber};
+use model::number::TaskNumber;
 use queue::next::next_to_run;
 
 #[unsafe(no_mangle)]
@@ -35,7 +35,7 @@ pub extern "C" fn timing_next_to_run(state: &[u32]) -> u32
 pub extern "C" fn timing_renew_bit(state: &mut [u32], t: u32)
     requires { length state.old ≡ word_count }
 {
-    if let MaybeTask::Task(n) = TaskNumber::from_word(t) {
+    if let Some(n) = TaskNumber::from_word(t) {
         ready::renew_bit(state, n);
     }
 }

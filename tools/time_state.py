@@ -14,15 +14,15 @@ CRATE = """// A set and a get of a task's base priority, for another language to
 ghost use Rattle.std.specs.Prelude.{◌≡◌, length};
 ghost use Rattle.model.specs.Words.{word_count};
 
-use model::number::{MaybeTask, TaskNumber};
+use model::number::TaskNumber;
 
 #[unsafe(no_mangle)]
 pub extern "C" fn timing_set(state: &mut [u32], n: u32, v: u32)
     requires { length state.old ≡ word_count }
 {
     match TaskNumber::from_word(n) {
-        MaybeTask::Task(t) => state::task::set_base(state, t, v),
-        MaybeTask::Nothing => {}
+        Some(t) => state::task::set_base(state, t, v),
+        None => {}
     }
 }
 
@@ -31,8 +31,8 @@ pub extern "C" fn timing_get(state: &[u32], n: u32) -> u32
     requires { length state.now ≡ word_count }
 {
     match TaskNumber::from_word(n) {
-        MaybeTask::Task(t) => state::task::base(state, t),
-        MaybeTask::Nothing => 0,
+        Some(t) => state::task::base(state, t),
+        None => 0,
     }
 }
 """
