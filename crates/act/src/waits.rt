@@ -44,8 +44,8 @@ pub fn end_waits(
     ensures { DoesInLog (λ w. end_waits w order.now code) state.old outbox.old log.old at state.new outbox.new log.new result }
 {
     let mut next = at;
-    for i in 0..order.len() {
-        next = end_numbered(state, outbox, log, next, order[i], code);
+    for &n in order {
+        next = end_numbered(state, outbox, log, next, n, code);
     }
     next
 }

@@ -22,6 +22,7 @@ use model::number::{BufferNumber, TaskNumber};
 use model::sizes::PLACES;
 use order::queue_order;
 use reply::Reply;
+use reply::deletion::refuse_deletion;
 use script::log::log_answer;
 use state::buffer::{exists, set_used};
 use state::layout::Words;
@@ -30,14 +31,7 @@ use state::task::{RECEIVING, SENDING};
 pub fn refuse_del_mbf(state: &Words, buffer: i32) -> Result<(), Error>
     ensures { refusal_of result ≡ first_refusal (deletion_refusals buffers (kernel state.now).buffers.exists buffer) }
 {
-    let found = BufferNumber::from_field(buffer);
-    let Some(b) = found else {
-        return Err(Error::Id);
-    };
-    if exists(state, b) == 0 {
-        return Err(Error::Noexs);
-    }
-    Ok(())
+    refuse_deletion(buffer, |b: BufferNumber| exists(state, b))
 }
 
 // "stored messages vanish"

@@ -19,6 +19,7 @@ use model::sizes::PLACES;
 use order::queue_order;
 use priority::recompute;
 use reply::Reply;
+use reply::deletion::refuse_deletion;
 use script::log::log_answer;
 use state::layout::Words;
 use state::mutex::{exists, set_attribute, set_ceiling, set_exists, set_holder};
@@ -27,14 +28,7 @@ use state::task::LOCKING;
 pub fn refuse_del_mtx(state: &Words, mutex: i32) -> Result<(), Error>
     ensures { refusal_of result ≡ first_refusal (deletion_refusals mutexes (kernel state.now).mutexes.exists mutex) }
 {
-    let found = MutexNumber::from_field(mutex);
-    let Some(m) = found else {
-        return Err(Error::Id);
-    };
-    if exists(state, m) == 0 {
-        return Err(Error::Noexs);
-    }
-    Ok(())
+    refuse_deletion(mutex, |m: MutexNumber| exists(state, m))
 }
 
 // "a holder loses the mutex", and priorities are settled.

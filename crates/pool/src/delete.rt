@@ -19,6 +19,7 @@ use model::number::{PoolNumber, TaskNumber};
 use model::sizes::{BLOCKS, PLACES};
 use order::queue_order;
 use reply::Reply;
+use reply::deletion::refuse_deletion;
 use script::log::log_answer;
 use state::layout::Words;
 use state::pool::{exists, set_taken};
@@ -27,14 +28,7 @@ use state::task::GETTING;
 pub fn refuse_del_mpf(state: &Words, pool: i32) -> Result<(), Error>
     ensures { refusal_of result ≡ first_refusal (deletion_refusals pools (kernel state.now).pools.exists pool) }
 {
-    let found = PoolNumber::from_field(pool);
-    let Some(p) = found else {
-        return Err(Error::Id);
-    };
-    if exists(state, p) == 0 {
-        return Err(Error::Noexs);
-    }
-    Ok(())
+    refuse_deletion(pool, |p: PoolNumber| exists(state, p))
 }
 
 // No block of the pool is handed out any more.

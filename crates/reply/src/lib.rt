@@ -1,6 +1,7 @@
 // What a call comes to: whether it is refused, and, where it is carried out, its answer and where the log goes on.
 #![tactic(auto)]
 
+pub mod deletion;
 pub mod field;
 
 use model::call::Answer;

@@ -9,26 +9,19 @@ use Rattle.act.proofs.Loop.{dropped, in-log-more, in-log-none}
 use Rattle.state.proofs.WordLaws.{long}
 use Rattle.act.proofs.waits.end_waits.Goals as goal
 
-pub loop-i-init : goal.loop-i-init
-loop-i-init c = (ending _ _ (long _ c.told-state), omega arith, refl)
+pub loop-n-init : goal.loop-n-init
+loop-n-init c = ending _ _ (long _ c.told-state)
 
 pub end_numbered-next-requires : goal.end_numbered-next-requires
-end_numbered-next-requires c =
-    let i = c.loop-i.invariant in (c.requires.each
-    c.loop-i.i c.loop-i-test.true)
+end_numbered-next-requires c = c.requires.each c.loop-n.n-index c.loop-n-test.true
 
-pub loop-i-preserved : goal.loop-i-preserved
-loop-i-preserved c =
-    let i = c.loop-i.invariant in
-    let k = c.end_numbered-next.auto in (
-      in-log-more _ (dropped _ c.loop-i.i
-          c.loop-i-test.true) i.0 (long _ c.end_numbered-next.array_long ∙ sym i.0.words) k.outbox k.log
-          c.end_numbered-next.ensures,
-      search rules,
-      refl,
-    )
+pub loop-n-preserved : goal.loop-n-preserved
+loop-n-preserved c =
+    let i = c.loop-n.invariant in
+    let k = c.end_numbered-next.auto in
+    in-log-more _ (dropped _ c.loop-n.n-index c.loop-n-test.true) i (long _ c.end_numbered-next.array_long ∙ sym i.words) k.outbox k.log c.end_numbered-next.ensures
 
 pub returns : goal.returns
 returns c =
-    rw (to_z-of_z c.ranges.code) at (in-log-none _ (drop_of_length-le _ {i = c.loop-i.i}
-    (search rules)) c.loop-i.invariant.0)
+    rw (to_z-of_z c.ranges.code) at (in-log-none _ (drop_of_length-le _ {i = c.loop-n.n-index}
+    (search rules)) c.loop-n.invariant)
