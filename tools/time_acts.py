@@ -17,22 +17,21 @@ CRATE = """// The acts that calls are made of, for another language to call.
 ghost use Rattle.std.specs.Prelude.{◌≡◌, length};
 ghost use Rattle.model.specs.Sizes.{tasks};
 ghost use Rattle.model.specs.Valid.{Arrivals, Priorities, Bitmap};
-ghost use Rattle.model.specs.Words.{word_count, kernel};
+ghost use Rattle.model.specs.Words.{kernel};
 ghost use Rattle.order.specs.Order.{Tasks};
 
 use model::number::{BufferNumber, MutexNumber, TaskNumber};
+use state::layout::Words;
 
 #[unsafe(no_mangle)]
 pub extern "C" fn timing_end_wait(
-    state: &mut [u32],
+    state: &mut Words,
     outbox: &mut [u8],
     log: &mut [u8],
     at: usize,
     t: u32,
     code: i32,
-) -> usize
-    requires { length state.old ≡ word_count }
-{
+) -> usize {
     match TaskNumber::from_word(t) {
         Some(n) => act::wait::end_wait(state, outbox, log, at, n, code),
         None => 0,
@@ -41,14 +40,12 @@ pub extern "C" fn timing_end_wait(
 
 #[unsafe(no_mangle)]
 pub extern "C" fn timing_release(
-    state: &mut [u32],
+    state: &mut Words,
     outbox: &mut [u8],
     log: &mut [u8],
     at: usize,
     m: u32,
-) -> usize
-    requires { length state.old ≡ word_count }
-{
+) -> usize {
     match MutexNumber::from_word(m) {
         Some(n) => act::mutex::release(state, outbox, log, at, n),
         None => 0,
@@ -57,13 +54,12 @@ pub extern "C" fn timing_release(
 
 #[unsafe(no_mangle)]
 pub extern "C" fn timing_release_settled(
-    state: &mut [u32],
+    state: &mut Words,
     outbox: &mut [u8],
     log: &mut [u8],
     at: usize,
     m: u32,
 ) -> usize
-    requires state_len { length state.old ≡ word_count }
     requires priorities { Priorities (kernel state.old) }
     requires bitmap { Bitmap (kernel state.old) }
     requires arrivals { Arrivals (kernel state.old) }
@@ -76,14 +72,12 @@ pub extern "C" fn timing_release_settled(
 
 #[unsafe(no_mangle)]
 pub extern "C" fn timing_become_dormant(
-    state: &mut [u32],
+    state: &mut Words,
     outbox: &mut [u8],
     log: &mut [u8],
     at: usize,
     t: u32,
-) -> usize
-    requires { length state.old ≡ word_count }
-{
+) -> usize {
     match TaskNumber::from_word(t) {
         Some(n) => act::task::become_dormant(state, outbox, log, at, n),
         None => 0,
@@ -92,14 +86,12 @@ pub extern "C" fn timing_become_dormant(
 
 #[unsafe(no_mangle)]
 pub extern "C" fn timing_tick_task(
-    state: &mut [u32],
+    state: &mut Words,
     outbox: &mut [u8],
     log: &mut [u8],
     at: usize,
     t: u32,
-) -> usize
-    requires { length state.old ≡ word_count }
-{
+) -> usize {
     match TaskNumber::from_word(t) {
         Some(n) => act::task::tick_task(state, outbox, log, at, n),
         None => 0,
@@ -108,36 +100,32 @@ pub extern "C" fn timing_tick_task(
 
 #[unsafe(no_mangle)]
 pub extern "C" fn timing_queue_order(
-    state: &[u32],
+    state: &Words,
     place: u32,
     object: u32,
     order: &mut [u32],
 ) -> usize
-    requires state_len { length state.now ≡ word_count }
-    requires order_len { length order.old ≡ tasks }
+    requires { length order.old ≡ tasks }
 {
     order::queue_order(state, place, object, order)
 }
 
 #[unsafe(no_mangle)]
 pub extern "C" fn timing_end_waits(
-    state: &mut [u32],
+    state: &mut Words,
     outbox: &mut [u8],
     log: &mut [u8],
     at: usize,
     order: &[u32],
     code: i32,
 ) -> usize
-    requires state_len { length state.old ≡ word_count }
-    requires tasks { Tasks order.now }
+    requires { Tasks order.now }
 {
     act::waits::end_waits(state, outbox, log, at, order, code)
 }
 
 #[unsafe(no_mangle)]
-pub extern "C" fn timing_take_oldest(state: &mut [u32], store: &mut [u8], b: u32)
-    requires { length state.old ≡ word_count }
-{
+pub extern "C" fn timing_take_oldest(state: &mut Words, store: &mut [u8], b: u32) {
     match BufferNumber::from_word(b) {
         Some(n) => transfer::store::take_oldest(state, store, n),
         None => {}
@@ -146,14 +134,12 @@ pub extern "C" fn timing_take_oldest(state: &mut [u32], store: &mut [u8], b: u32
 
 #[unsafe(no_mangle)]
 pub extern "C" fn timing_drain(
-    state: &mut [u32],
+    state: &mut Words,
     store: &mut [u8],
     outbox: &mut [u8],
     log: &mut [u8],
     at: usize,
-) -> usize
-    requires { length state.old ≡ word_count }
-{
+) -> usize {
     transfer::drain::drain(state, store, outbox, log, at)
 }
 """
@@ -181,60 +167,60 @@ struct Case { lent: Lent, queue: u32, number: u32, after: Lent, ended: Vec<u8> }
 /// An act, the cases on which it is timed, and what shows that it did something.
 struct Timed { name: &'static str, act: Act, cases: Vec<Case>, did: fn(&Case, &Lent) -> bool }
 
-// A slice is passed as a pointer and a length.
+// A slice is passed as a pointer and a length, the state as a pointer.
 extern "C" {
-    fn timing_end_wait(w: *mut u32, wl: usize, o: *mut u8, ol: usize, l: *mut u8, ll: usize, at: usize, t: u32, code: i32) -> usize;
-    fn timing_release(w: *mut u32, wl: usize, o: *mut u8, ol: usize, l: *mut u8, ll: usize, at: usize, m: u32) -> usize;
-    fn timing_release_settled(w: *mut u32, wl: usize, o: *mut u8, ol: usize, l: *mut u8, ll: usize, at: usize, m: u32) -> usize;
-    fn timing_become_dormant(w: *mut u32, wl: usize, o: *mut u8, ol: usize, l: *mut u8, ll: usize, at: usize, t: u32) -> usize;
-    fn timing_tick_task(w: *mut u32, wl: usize, o: *mut u8, ol: usize, l: *mut u8, ll: usize, at: usize, t: u32) -> usize;
-    fn timing_queue_order(w: *const u32, wl: usize, place: u32, object: u32, order: *mut u32, length: usize) -> usize;
-    fn timing_end_waits(w: *mut u32, wl: usize, o: *mut u8, ol: usize, l: *mut u8, ll: usize, at: usize,
+    fn timing_end_wait(w: *mut u32, o: *mut u8, ol: usize, l: *mut u8, ll: usize, at: usize, t: u32, code: i32) -> usize;
+    fn timing_release(w: *mut u32, o: *mut u8, ol: usize, l: *mut u8, ll: usize, at: usize, m: u32) -> usize;
+    fn timing_release_settled(w: *mut u32, o: *mut u8, ol: usize, l: *mut u8, ll: usize, at: usize, m: u32) -> usize;
+    fn timing_become_dormant(w: *mut u32, o: *mut u8, ol: usize, l: *mut u8, ll: usize, at: usize, t: u32) -> usize;
+    fn timing_tick_task(w: *mut u32, o: *mut u8, ol: usize, l: *mut u8, ll: usize, at: usize, t: u32) -> usize;
+    fn timing_queue_order(w: *const u32, place: u32, object: u32, order: *mut u32, length: usize) -> usize;
+    fn timing_end_waits(w: *mut u32, o: *mut u8, ol: usize, l: *mut u8, ll: usize, at: usize,
         order: *const u32, length: usize, code: i32) -> usize;
-    fn timing_take_oldest(w: *mut u32, wl: usize, s: *mut u8, sl: usize, b: u32);
-    fn timing_drain(w: *mut u32, wl: usize, s: *mut u8, sl: usize, o: *mut u8, ol: usize, l: *mut u8, ll: usize, at: usize) -> usize;
+    fn timing_take_oldest(w: *mut u32, s: *mut u8, sl: usize, b: u32);
+    fn timing_drain(w: *mut u32, s: *mut u8, sl: usize, o: *mut u8, ol: usize, l: *mut u8, ll: usize, at: usize) -> usize;
 }
 
 // The acts.
 
 fn end_wait(x: &mut Lent, log: &mut Log, c: &Case) -> usize {
     let (w, o) = (&mut x.words, &mut x.outbox);
-    unsafe { timing_end_wait(w.as_mut_ptr(), WORDS, o.as_mut_ptr(), OUTBOX, log.as_mut_ptr(), LOG, START, c.number, E_TMOUT) }
+    unsafe { timing_end_wait(w.as_mut_ptr(), o.as_mut_ptr(), OUTBOX, log.as_mut_ptr(), LOG, START, c.number, E_TMOUT) }
 }
 
 fn release(x: &mut Lent, log: &mut Log, c: &Case) -> usize {
     let (w, o) = (&mut x.words, &mut x.outbox);
-    unsafe { timing_release(w.as_mut_ptr(), WORDS, o.as_mut_ptr(), OUTBOX, log.as_mut_ptr(), LOG, START, c.number) }
+    unsafe { timing_release(w.as_mut_ptr(), o.as_mut_ptr(), OUTBOX, log.as_mut_ptr(), LOG, START, c.number) }
 }
 
 fn release_settled(x: &mut Lent, log: &mut Log, c: &Case) -> usize {
     let (w, o) = (&mut x.words, &mut x.outbox);
-    unsafe { timing_release_settled(w.as_mut_ptr(), WORDS, o.as_mut_ptr(), OUTBOX, log.as_mut_ptr(), LOG, START, c.number) }
+    unsafe { timing_release_settled(w.as_mut_ptr(), o.as_mut_ptr(), OUTBOX, log.as_mut_ptr(), LOG, START, c.number) }
 }
 
 fn become_dormant(x: &mut Lent, log: &mut Log, c: &Case) -> usize {
     let (w, o) = (&mut x.words, &mut x.outbox);
-    unsafe { timing_become_dormant(w.as_mut_ptr(), WORDS, o.as_mut_ptr(), OUTBOX, log.as_mut_ptr(), LOG, START, c.number) }
+    unsafe { timing_become_dormant(w.as_mut_ptr(), o.as_mut_ptr(), OUTBOX, log.as_mut_ptr(), LOG, START, c.number) }
 }
 
 fn drain(x: &mut Lent, log: &mut Log, _: &Case) -> usize {
     let (w, s, o) = (&mut x.words, &mut x.store, &mut x.outbox);
-    unsafe { timing_drain(w.as_mut_ptr(), WORDS, s.as_mut_ptr(), STORE, o.as_mut_ptr(), OUTBOX, log.as_mut_ptr(), LOG, START) }
+    unsafe { timing_drain(w.as_mut_ptr(), s.as_mut_ptr(), STORE, o.as_mut_ptr(), OUTBOX, log.as_mut_ptr(), LOG, START) }
 }
 
 /// The order of the queue is put down, and then all its waits end.
 fn end_waits(x: &mut Lent, log: &mut Log, c: &Case) -> usize {
     let (w, o) = (&mut x.words, &mut x.outbox);
     let mut order = [0; TASKS];
-    let start = unsafe { timing_queue_order(w.as_ptr(), WORDS, c.queue, c.number, order.as_mut_ptr(), TASKS) };
+    let start = unsafe { timing_queue_order(w.as_ptr(), c.queue, c.number, order.as_mut_ptr(), TASKS) };
     let (line, l) = (&order[start..], log.as_mut_ptr());
-    unsafe { timing_end_waits(w.as_mut_ptr(), WORDS, o.as_mut_ptr(), OUTBOX, l, LOG, START, line.as_ptr(), line.len(), E_DLT) }
+    unsafe { timing_end_waits(w.as_mut_ptr(), o.as_mut_ptr(), OUTBOX, l, LOG, START, line.as_ptr(), line.len(), E_DLT) }
 }
 
 /// A millisecond passes for each task in turn.
 fn tick(x: &mut Lent, log: &mut Log, _: &Case) -> usize {
     let (w, o, l) = (&mut x.words, &mut x.outbox, log.as_mut_ptr());
-    tasks().fold(START, |at, t| unsafe { timing_tick_task(w.as_mut_ptr(), WORDS, o.as_mut_ptr(), OUTBOX, l, LOG, at, t) })
+    tasks().fold(START, |at, t| unsafe { timing_tick_task(w.as_mut_ptr(), o.as_mut_ptr(), OUTBOX, l, LOG, at, t) })
 }
 
 // The states.
@@ -309,7 +295,7 @@ impl Case {
         (1..=BUFFERS as u32).filter(|&b| x.word(at::USED, b) > 0).find_map(|b| {
             let mut case = Case::of(*x, SENDING, b, Call::RcvMbf { buffer: b as i32, timeout: 0 }, &wanted)?;
             let (w, s) = (&mut case.lent.words, &mut case.lent.store);
-            unsafe { timing_take_oldest(w.as_mut_ptr(), WORDS, s.as_mut_ptr(), STORE, b) };
+            unsafe { timing_take_oldest(w.as_mut_ptr(), s.as_mut_ptr(), STORE, b) };
             Some(case)
         })
     }
@@ -530,4 +516,4 @@ fn main() {
 """
 
 if __name__ == "__main__":
-    run(CRATE, "model order act transfer", LENT_STATES + PROGRAM, lambda folder: sys.argv[1:] or ["2000", "101", "3"])
+    run(CRATE, "model state order act transfer", LENT_STATES + PROGRAM, lambda folder: sys.argv[1:] or ["2000", "101", "3"])

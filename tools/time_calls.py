@@ -16,25 +16,25 @@ from timing import LENT_STATES, run
 CRATE = """// A record of a script with the check of the state and without, and parts of it, for another language to call.
 #![tactic(auto)]
 
-ghost use Rattle.std.specs.Prelude.{◌≡◌, length};
 ghost use Rattle.model.specs.Sizes.{tasks};
 ghost use Rattle.model.specs.Number.{maybe_task, word_number};
 ghost use Rattle.model.specs.Valid.{Bitmap};
-ghost use Rattle.model.specs.Words.{word_count, kernel};
+ghost use Rattle.model.specs.Words.{kernel};
 ghost use Rattle.act.specs.Held.{areas};
 ghost use Rattle.call.specs.Steps.{Ready};
 
 use call::step::valid_step;
-use model::call::{Cursor, Progress, Read};
-use model::number::TaskNumber;
+use model::call::{Cursor, Progress, Record};
+use model::number::{task_byte, TaskNumber};
 use queue::next::next_to_run;
 use run::run_record;
 use script::reader::{message, read_record};
+use state::layout::Words;
 
 // Answers how many bytes of log were written; the place goes on to the next record.
 #[unsafe(no_mangle)]
 pub extern "C" fn timing_checked(
-    state: &mut [u32],
+    state: &mut Words,
     store: &mut [u8],
     outbox: &mut [u8],
     log: &mut [u8],
@@ -52,7 +52,7 @@ pub extern "C" fn timing_checked(
 // The task that runs is handed over, and the next one handed back.
 #[unsafe(no_mangle)]
 pub extern "C" fn timing_unchecked(
-    state: &mut [u32],
+    state: &mut Words,
     store: &mut [u8],
     outbox: &mut [u8],
     log: &mut [u8],
@@ -65,7 +65,7 @@ pub extern "C" fn timing_unchecked(
 {
     let caller = TaskNumber::from_word(runs);
     let place = Cursor { at: *at };
-    let Read::Record { call, next } = read_record(script, place) else {
+    let Ok(Record { call, next }) = read_record(script, place) else {
         return 0;
     };
     let step = valid_step(
@@ -79,13 +79,12 @@ pub extern "C" fn timing_unchecked(
     );
     *at = next.at;
     *written = step.written;
-    let next_runs = step.runs;
-    next_runs.byte() as u32
+    task_byte(step.runs) as u32
 }
 
 #[unsafe(no_mangle)]
 pub extern "C" fn timing_read(script: &[u8], at: usize) -> usize {
-    let Read::Record { call: _, next } = read_record(script, Cursor { at: at }) else {
+    let Ok(Record { call: _, next }) = read_record(script, Cursor { at: at }) else {
         return 0;
     };
     next.at
@@ -93,23 +92,19 @@ pub extern "C" fn timing_read(script: &[u8], at: usize) -> usize {
 
 #[unsafe(no_mangle)]
 pub extern "C" fn timing_drain(
-    state: &mut [u32],
+    state: &mut Words,
     store: &mut [u8],
     outbox: &mut [u8],
     log: &mut [u8],
-) -> usize
-    requires { length state.old ≡ word_count }
-{
+) -> usize {
     transfer::drain::drain(state, store, outbox, log, 0)
 }
 
 #[unsafe(no_mangle)]
-pub extern "C" fn timing_next_to_run(state: &[u32]) -> u32
-    requires state_len { length state.now ≡ word_count }
-    requires bitmap { Bitmap (kernel state.now) }
+pub extern "C" fn timing_next_to_run(state: &Words) -> u32
+    requires { Bitmap (kernel state.now) }
 {
-    let runs = next_to_run(state);
-    runs.byte() as u32
+    task_byte(next_to_run(state)) as u32
 }
 """
 
@@ -140,38 +135,38 @@ struct Timed { name: &'static str, cases: Vec<Case> }
 /// A script as bytes and as calls, and what it must leave.
 struct Script { bytes: Vec<u8>, calls: Vec<Call>, log: Vec<u8>, after: Lent }
 
-// A slice is passed as a pointer and a length.
+// A slice is passed as a pointer and a length, the state as a pointer.
 extern "C" {
-    fn timing_checked(w: *mut u32, wl: usize, s: *mut u8, sl: usize, o: *mut u8, ol: usize, l: *mut u8, ll: usize,
+    fn timing_checked(w: *mut u32, s: *mut u8, sl: usize, o: *mut u8, ol: usize, l: *mut u8, ll: usize,
         script: *const u8, length: usize, at: *mut usize) -> usize;
-    fn timing_unchecked(w: *mut u32, wl: usize, s: *mut u8, sl: usize, o: *mut u8, ol: usize, l: *mut u8, ll: usize,
+    fn timing_unchecked(w: *mut u32, s: *mut u8, sl: usize, o: *mut u8, ol: usize, l: *mut u8, ll: usize,
         script: *const u8, length: usize, at: *mut usize, runs: u32, written: *mut usize) -> u32;
     fn timing_read(script: *const u8, length: usize, at: usize) -> usize;
-    fn timing_drain(w: *mut u32, wl: usize, s: *mut u8, sl: usize, o: *mut u8, ol: usize, l: *mut u8, ll: usize) -> usize;
-    fn timing_next_to_run(w: *const u32, wl: usize) -> u32;
+    fn timing_drain(w: *mut u32, s: *mut u8, sl: usize, o: *mut u8, ol: usize, l: *mut u8, ll: usize) -> usize;
+    fn timing_next_to_run(w: *const u32) -> u32;
 }
 
 // The product: the record at a place of a script. Answers how many bytes of log it wrote.
 
 fn checked(x: &mut Lent, log: &mut Log, script: &[u8], at: &mut usize) -> usize {
     let (w, s, o, l) = (x.words.as_mut_ptr(), x.store.as_mut_ptr(), x.outbox.as_mut_ptr(), log.as_mut_ptr());
-    unsafe { timing_checked(w, WORDS, s, STORE, o, OUTBOX, l, LOG, script.as_ptr(), script.len(), at) }
+    unsafe { timing_checked(w, s, STORE, o, OUTBOX, l, LOG, script.as_ptr(), script.len(), at) }
 }
 
 fn unchecked(x: &mut Lent, log: &mut Log, script: &[u8], at: &mut usize, runs: &mut u32) -> usize {
     let (w, s, o, l) = (x.words.as_mut_ptr(), x.store.as_mut_ptr(), x.outbox.as_mut_ptr(), log.as_mut_ptr());
     let mut written = 0;
-    *runs = unsafe { timing_unchecked(w, WORDS, s, STORE, o, OUTBOX, l, LOG, script.as_ptr(), script.len(), at, *runs, &mut written) };
+    *runs = unsafe { timing_unchecked(w, s, STORE, o, OUTBOX, l, LOG, script.as_ptr(), script.len(), at, *runs, &mut written) };
     written
 }
 
 fn drain(x: &mut Lent, log: &mut Log) -> usize {
     let (w, s, o, l) = (x.words.as_mut_ptr(), x.store.as_mut_ptr(), x.outbox.as_mut_ptr(), log.as_mut_ptr());
-    unsafe { timing_drain(w, WORDS, s, STORE, o, OUTBOX, l, LOG) }
+    unsafe { timing_drain(w, s, STORE, o, OUTBOX, l, LOG) }
 }
 
 fn next_to_run(x: &Lent) -> u32 {
-    unsafe { timing_next_to_run(x.words.as_ptr(), WORDS) }
+    unsafe { timing_next_to_run(x.words.as_ptr()) }
 }
 
 /// The second program's record: read, run, logged.
@@ -630,5 +625,5 @@ fn main() {
 """
 
 if __name__ == "__main__":
-    on = "model script queue act transfer call run"
+    on = "model state script queue act transfer call run"
     run(CRATE, on, LENT_STATES + PROGRAM, lambda folder: sys.argv[1:] or ["1000", "101", "3"])

@@ -15,35 +15,29 @@ from timing import LENT_STATES, run
 CRATE = """// The search for the next task, ways to the first bit, and the keeping of the bits, for another language to call.
 #![tactic(auto)]
 
-ghost use Rattle.std.specs.Prelude.{◌≡◌, length};
 ghost use Rattle.model.specs.Valid.{Bitmap};
-ghost use Rattle.model.specs.Words.{word_count, kernel};
+ghost use Rattle.model.specs.Words.{kernel};
 
-use model::number::TaskNumber;
+use model::number::{task_byte, TaskNumber};
 use queue::next::next_to_run;
+use state::layout::Words;
 
 #[unsafe(no_mangle)]
-pub extern "C" fn timing_next_to_run(state: &[u32]) -> u32
-    requires state_len { length state.now ≡ word_count }
-    requires bitmap { Bitmap (kernel state.now) }
+pub extern "C" fn timing_next_to_run(state: &Words) -> u32
+    requires { Bitmap (kernel state.now) }
 {
-    let runs = next_to_run(state);
-    runs.byte() as u32
+    task_byte(next_to_run(state)) as u32
 }
 
 #[unsafe(no_mangle)]
-pub extern "C" fn timing_renew_bit(state: &mut [u32], t: u32)
-    requires { length state.old ≡ word_count }
-{
+pub extern "C" fn timing_renew_bit(state: &mut Words, t: u32) {
     if let Some(n) = TaskNumber::from_word(t) {
         ready::renew_bit(state, n);
     }
 }
 
 #[unsafe(no_mangle)]
-pub extern "C" fn timing_renew_bits(state: &mut [u32])
-    requires { length state.old ≡ word_count }
-{
+pub extern "C" fn timing_renew_bits(state: &mut Words) {
     ready::renew_bits(state);
 }
 
@@ -110,9 +104,9 @@ const CHOSEN: usize = 50;
 const BITS: usize = 1_000;
 
 extern "C" {
-    fn timing_next_to_run(words: *const u32, length: usize) -> u32;
-    fn timing_renew_bit(words: *mut u32, length: usize, t: u32);
-    fn timing_renew_bits(words: *mut u32, length: usize);
+    fn timing_next_to_run(words: *const u32) -> u32;
+    fn timing_renew_bit(words: *mut u32, t: u32);
+    fn timing_renew_bits(words: *mut u32);
     fn timing_no_way(word: u32) -> u32;
     fn timing_by_count(word: u32) -> u32;
     fn timing_by_halves(word: u32) -> u32;
@@ -126,7 +120,7 @@ fn runs(x: &Lent) -> u32 {
 }
 
 fn next_to_run(x: &Lent) -> u32 {
-    unsafe { timing_next_to_run(x.words.as_ptr(), WORDS) }
+    unsafe { timing_next_to_run(x.words.as_ptr()) }
 }
 
 /// The fresh state, its task at another priority.
@@ -198,11 +192,11 @@ fn time_change(states: &[(Lent, u32)], calls: usize, change: unsafe fn(&mut Lent
 }
 
 unsafe fn renew_bit(x: &mut Lent, t: u32) {
-    timing_renew_bit(x.words.as_mut_ptr(), WORDS, t)
+    timing_renew_bit(x.words.as_mut_ptr(), t)
 }
 
 unsafe fn renew_bits(x: &mut Lent, _: u32) {
-    timing_renew_bits(x.words.as_mut_ptr(), WORDS)
+    timing_renew_bits(x.words.as_mut_ptr())
 }
 
 /// Each batch by turns, and the median of each.
@@ -268,4 +262,4 @@ fn main() {
 """
 
 if __name__ == "__main__":
-    run(CRATE, "model ready queue", LENT_STATES + PROGRAM, lambda folder: sys.argv[1:] or ["2000", "101", "3"])
+    run(CRATE, "model state ready queue", LENT_STATES + PROGRAM, lambda folder: sys.argv[1:] or ["2000", "101", "3"])

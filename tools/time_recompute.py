@@ -13,13 +13,10 @@ from timing import run
 CRATE = """// Priorities worked out afresh, for another language to call.
 #![tactic(auto)]
 
-ghost use Rattle.std.specs.Prelude.{◌≡◌, length};
-ghost use Rattle.model.specs.Words.{word_count};
+use state::layout::Words;
 
 #[unsafe(no_mangle)]
-pub extern "C" fn timing_recompute(state: &mut [u32])
-    requires { length state.old ≡ word_count }
-{
+pub extern "C" fn timing_recompute(state: &mut Words) {
     priority::recompute(state);
 }
 """
@@ -39,7 +36,7 @@ type Program = fn(&mut State);
 struct Time { seconds: i64, nanoseconds: i64 }
 
 extern "C" {
-    fn timing_recompute(state: *mut u32, length: usize);
+    fn timing_recompute(state: *mut u32);
     fn clock_gettime(clock: i32, time: *mut Time) -> i32;
 }
 
@@ -52,7 +49,7 @@ fn now() -> f64 {
 
 #[inline(never)]
 fn product(s: &mut State) {
-    unsafe { timing_recompute(s.as_mut_ptr(), s.len()) }
+    unsafe { timing_recompute(s.as_mut_ptr()) }
 }
 
 /// Own priorities task by task, each over all mutexes.

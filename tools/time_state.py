@@ -11,15 +11,11 @@ from timing import run
 CRATE = """// A set and a get of a task's base priority, for another language to call.
 #![tactic(auto)]
 
-ghost use Rattle.std.specs.Prelude.{◌≡◌, length};
-ghost use Rattle.model.specs.Words.{word_count};
-
 use model::number::TaskNumber;
+use state::layout::Words;
 
 #[unsafe(no_mangle)]
-pub extern "C" fn timing_set(state: &mut [u32], n: u32, v: u32)
-    requires { length state.old ≡ word_count }
-{
+pub extern "C" fn timing_set(state: &mut Words, n: u32, v: u32) {
     match TaskNumber::from_word(n) {
         Some(t) => state::task::set_base(state, t, v),
         None => {}
@@ -27,9 +23,7 @@ pub extern "C" fn timing_set(state: &mut [u32], n: u32, v: u32)
 }
 
 #[unsafe(no_mangle)]
-pub extern "C" fn timing_get(state: &[u32], n: u32) -> u32
-    requires { length state.now ≡ word_count }
-{
+pub extern "C" fn timing_get(state: &Words, n: u32) -> u32 {
     match TaskNumber::from_word(n) {
         Some(t) => state::task::base(state, t),
         None => 0,
@@ -43,8 +37,8 @@ use reference::words::WORDS;
 use std::time::Instant;
 
 extern "C" {
-    fn timing_set(state: *mut u32, length: usize, n: u32, v: u32);
-    fn timing_get(state: *const u32, length: usize, n: u32) -> u32;
+    fn timing_set(state: *mut u32, n: u32, v: u32);
+    fn timing_get(state: *const u32, n: u32) -> u32;
 }
 
 fn pairs(state: &mut [u32; WORDS], rounds: u32) -> u32 {
@@ -52,8 +46,8 @@ fn pairs(state: &mut [u32; WORDS], rounds: u32) -> u32 {
     let mut sum: u32 = 0;
     for i in 0..rounds {
         let read = unsafe {
-            timing_set(state.as_mut_ptr(), WORDS, i % tasks + 1, i);
-            timing_get(state.as_ptr(), WORDS, sum % tasks + 1)
+            timing_set(state.as_mut_ptr(), i % tasks + 1, i);
+            timing_get(state.as_ptr(), sum % tasks + 1)
         };
         sum = sum.wrapping_add(read);
     }
