@@ -1,5 +1,5 @@
 -- 02, request One: "the four sharing one proved rule for which rows change". What a board call answers and leaves, over any kind of row.
-use Rattle.std.specs.Prelude.{ℕ, zero, suc, Bool, cond, List, [], ◌∷◌, length, ℤ, ltb, Result, Ok, Err}
+use Rattle.std.specs.Prelude.{ℕ, zero, suc, Bool, cond, List, [], ◌∷◌, length, ℤ, pos, negsuc, ltb, Result, Ok, Err}
 use Rattle.model.specs.Code.{E_OK, E_SYS, E_PAR}
 use Rattle.model.specs.Errors.{code_of}
 use Rattle.model.specs.declared.code.Error.{Error}
@@ -31,3 +31,13 @@ module _ {R : Type 0} where
 abbrev pub answer_code : Result Unit Error → ℤ
 answer_code (Ok _) = E_OK
 answer_code (Err e) = code_of e
+
+-- ---- the same by parts; `by_parts` of `proofs/Rule.antt` proves that together they are `board_of`
+
+-- its answer, from how many rows are lent; and how many rows are looked at: every object's where the answer is no error, else none
+unfoldable pub board_code : Bool → ℕ → ℕ → ℤ
+board_code valid objects rows = cond valid (cond (ltb rows objects) E_PAR E_OK) E_SYS
+
+unfoldable pub rows_seen : ℤ → ℕ → ℕ
+rows_seen (pos n) objects = objects
+rows_seen (negsuc n) objects = 0
