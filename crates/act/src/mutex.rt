@@ -1,9 +1,8 @@
 // Mutexes are given up.
-ghost use Rattle.std.specs.Prelude.{◌≡◌, length};
 ghost use Rattle.model.specs.Sizes.{mutexes};
 ghost use Rattle.model.specs.Valid.{From, Arrivals, Priorities, Bitmap};
 ghost use Rattle.model.specs.Act.{release as released, release_all};
-ghost use Rattle.model.specs.Words.{word_count, kernel};
+ghost use Rattle.model.specs.Words.{kernel};
 ghost use Rattle.act.specs.Held.{DoesInLog};
 ghost use Rattle.act.specs.Ends.{release_held};
 
@@ -38,7 +37,7 @@ pub fn release(
     end_wait(state, outbox, log, at, t, E_OK)
 }
 
-// The same where priorities are settled and the bits go with them: a mutex without a ceiling that nobody waits for becomes free, and no priority changes.
+// The same where priorities are settled and the bits go with them, which `release` does not ask: a mutex without a ceiling that nobody waits for becomes free, and no priority changes.
 pub fn release_settled(
     state: &mut Words,
     outbox: &mut [u8],

@@ -1,8 +1,7 @@
 // Acts on one task: it becomes dormant, it joins its queue anew, a millisecond of its wait passes.
-ghost use Rattle.std.specs.Prelude.{◌≡◌, length};
 ghost use Rattle.model.specs.Act.{become_dormant};
 ghost use Rattle.model.specs.Effect.{rejoin as rejoined, tick_task};
-ghost use Rattle.model.specs.Words.{word_count, kernel};
+ghost use Rattle.model.specs.Words.{kernel};
 ghost use Rattle.state.specs.Words.{Represents};
 ghost use Rattle.act.specs.Held.{DoesInLog};
 ghost use Rattle.act.specs.Ends.{Retires};

@@ -1,9 +1,9 @@
 // A wait begins and ends. A wait's end is logged at once; the answer is where the log goes on.
-ghost use Rattle.std.specs.Prelude.{◌≡◌, length};
+ghost use Rattle.std.specs.Prelude.{◌≡◌};
 ghost use Rattle.model.specs.Facts.{queue};
 ghost use Rattle.model.specs.World.{Nothing, Message, Block};
 ghost use Rattle.model.specs.Act.{millis as milliseconds, wait as waiting, end_wait};
-ghost use Rattle.model.specs.Words.{word_count, kernel};
+ghost use Rattle.model.specs.Words.{kernel};
 ghost use Rattle.state.specs.Words.{Represents};
 ghost use Rattle.act.specs.Held.{DoesInWords, DoesInLog};
 ghost use Rattle.act.specs.Ends.{wait_begun, Leaves, Unblocks};

@@ -1,11 +1,9 @@
 // Several waits end with one code, in an order that was put down before: a deletion ends its object's waits "in the line order that stood
 // when the call began".
-ghost use Rattle.std.specs.Prelude.{◌≡◌, length};
 ghost use Rattle.model.specs.Sizes.{tasks};
 ghost use Rattle.model.specs.Valid.{From};
 ghost use Rattle.model.specs.World.{Nothing};
 ghost use Rattle.model.specs.Act.{end_wait, end_waits};
-ghost use Rattle.model.specs.Words.{word_count};
 ghost use Rattle.order.specs.Order.{Tasks};
 ghost use Rattle.act.specs.Held.{DoesInLog};
 

@@ -13,7 +13,7 @@ pub fn all_zero(bytes: &[u8]) -> bool
     zero
 }
 
-// The first n bytes, and those behind them.
+// The first n bytes, and those behind them. `part` of `script` is both in one, but this crate is not built on that one.
 pub fn first<'a>(bytes: &'a [u8], n: usize) -> &'a [u8]
     ensures { result.now ≡ take n bytes.now }
 {

@@ -27,6 +27,7 @@ pub fn fill_board<R: Row>(
     if rows.len() < R::Of::LAST as usize {
         return Err(Error::Par);
     }
+    // the rows go by the objects' numbers, and rows behind the last object are left out
     for i in 0..R::Of::LAST {
         let Some(n) = Number::<R::Of>::from_word(i + 1) else {
             continue;

@@ -1,5 +1,6 @@
+// The functions of this crate print by themselves: their contracts say each byte, in fixed memory, which Display does not.
 // What the tables have in common beside their cells: a header above the rows that are shown, and one line where none is.
-ghost use Rattle.std.specs.Prelude.{Bool, ◌≡◌, ◌<◌, ◌^◌, length};
+ghost use Rattle.std.specs.Prelude.{◌≡◌, ◌<◌, ◌^◌, length};
 ghost use Rattle.board_text.specs.Column.{header};
 ghost use Rattle.board_text.specs.Table.{Table, row_line, table_text, unless};
 ghost use Rattle.script.specs.Place.{Appends, Wrote};

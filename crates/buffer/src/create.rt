@@ -1,11 +1,11 @@
 // cre_mbf: a new message buffer.
-ghost use Rattle.std.specs.Prelude.{◌≡◌, length};
+ghost use Rattle.std.specs.Prelude.{◌≡◌};
 ghost use Rattle.std.proofs.Math.Option.{none};
 ghost use Rattle.model.specs.Code.{number};
 ghost use Rattle.model.specs.Refusal.{first_refusal, cre_mbf_refusals};
 ghost use Rattle.model.specs.Effect.{cre_mbf};
 ghost use Rattle.model.specs.Errors.{refusal_of};
-ghost use Rattle.model.specs.Words.{word_count, kernel};
+ghost use Rattle.model.specs.Words.{kernel};
 ghost use Rattle.state.specs.Words.{Represents};
 ghost use Rattle.reply.specs.Replies.{CarriesInWords};
 ghost use Rattle.buffer.specs.Rows.{buffer_row};

@@ -1,5 +1,5 @@
 // del_mbf: a message buffer is deleted, and the waits there end.
-ghost use Rattle.std.specs.Prelude.{◌≡◌, ◌++◌, length};
+ghost use Rattle.std.specs.Prelude.{◌≡◌, ◌++◌};
 ghost use Rattle.std.proofs.Math.Option.{none};
 ghost use Rattle.model.specs.Sizes.{buffers};
 ghost use Rattle.model.specs.Code.{E_DLT, number};
@@ -7,7 +7,7 @@ ghost use Rattle.model.specs.Refusal.{first_refusal, deletion_refusals};
 ghost use Rattle.model.specs.Act.{end_waits};
 ghost use Rattle.model.specs.Effect.{del_mbf};
 ghost use Rattle.model.specs.Errors.{refusal_of};
-ghost use Rattle.model.specs.Words.{word_count, kernel};
+ghost use Rattle.model.specs.Words.{kernel};
 ghost use Rattle.order.specs.Order.{Tasks};
 ghost use Rattle.act.specs.Held.{areas, Does, DoesInStore, DoesInLog};
 ghost use Rattle.reply.specs.Replies.{Carries};

@@ -6,7 +6,7 @@ ghost use Rattle.model.specs.World.{running};
 ghost use Rattle.model.specs.Refusal.{first_refusal, receive_waits, rcv_mbf_refusals};
 ghost use Rattle.model.specs.Effect.{rcv_mbf};
 ghost use Rattle.model.specs.Errors.{refusal_of};
-ghost use Rattle.model.specs.Words.{word_count, kernel};
+ghost use Rattle.model.specs.Words.{kernel};
 ghost use Rattle.act.specs.Held.{areas};
 ghost use Rattle.reply.specs.Replies.{Carries, CarriesInWords, CarriesInStore, CarriesInLog};
 ghost use Rattle.buffer.specs.Branches.{received_stored, received_sent, receive_waiting};

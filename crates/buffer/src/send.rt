@@ -10,7 +10,7 @@ ghost use Rattle.model.specs.Act.{fits};
 ghost use Rattle.model.specs.Refusal.{dirty_tail, first_refusal, storable as storable_in, send_waits, snd_mbf_refusals};
 ghost use Rattle.model.specs.Effect.{snd_mbf};
 ghost use Rattle.model.specs.Errors.{refusal_of};
-ghost use Rattle.model.specs.Words.{word_count, kernel};
+ghost use Rattle.model.specs.Words.{kernel};
 ghost use Rattle.act.specs.Held.{areas};
 ghost use Rattle.reply.specs.Replies.{Carries, CarriesInStore, CarriesInLog};
 ghost use Rattle.buffer.specs.Branches.{sent_over, sent_in, send_waiting};

@@ -1,11 +1,11 @@
 // Which function a call has: the one that finds its first refusal, and the one that carries it out.
-ghost use Rattle.std.specs.Prelude.{◌≤◌, ◌≡◌, length};
+ghost use Rattle.std.specs.Prelude.{◌≤◌, ◌≡◌};
 ghost use Rattle.model.specs.Number.{maybe_task};
 ghost use Rattle.model.specs.World.{running};
 ghost use Rattle.model.specs.Refusal.{first_refusal, refusals};
 ghost use Rattle.model.specs.Effect.{perform};
 ghost use Rattle.model.specs.Errors.{refusal_of};
-ghost use Rattle.model.specs.Words.{word_count, kernel};
+ghost use Rattle.model.specs.Words.{kernel};
 ghost use Rattle.act.specs.Held.{areas};
 ghost use Rattle.reply.specs.Replies.{Carries};
 ghost use Rattle.call.specs.Steps.{Allowed, is_tick};

@@ -4,7 +4,6 @@
 pub(crate) mod dispatch;
 pub mod step;
 
-ghost use Rattle.std.specs.Prelude.{◌≡◌};
 ghost use Rattle.act.specs.Held.{areas};
 ghost use Rattle.call.specs.Calls.{Answers, NotValid};
 

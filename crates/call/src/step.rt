@@ -1,6 +1,6 @@
 // A call on a valid state: it is refused, or carried out, the send queues are drained, and the next task to run is found.
 ghost use Rattle.std.specs.Prelude.{◌≡◌};
-ghost use Rattle.std.proofs.Math.Option.{none, some};
+ghost use Rattle.std.proofs.Math.Option.{none};
 ghost use Rattle.model.specs.Refusal.{first_refusal, refusals};
 ghost use Rattle.model.specs.Words.{kernel};
 ghost use Rattle.act.specs.Held.{areas};

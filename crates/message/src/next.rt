@@ -6,8 +6,8 @@ use super::outbox::outbox_message;
 use super::store::store_oldest;
 use model::number::{BufferNumber, TaskNumber};
 
-// Where a message lies: in the store, the oldest of a buffer; in the outbox, a sender's, of so many bytes; or nowhere. An enum of its own
-// and no Option, since there are two kinds of place.
+// Where a message lies: in the store, the oldest of a buffer; in the outbox, a sender's, of so many bytes; or nowhere. An Option
+// of the two places would be taken apart in two steps where this takes one, so it is no plainer.
 #[derive(Clone, Copy)]
 pub enum Location {
     Stored(BufferNumber),

@@ -71,13 +71,14 @@ body_entry None = 255
 unfoldable pub field : List ℕ → ℕ → ℤ
 field body i = signed (number4 (body ! (4 * i)) (body ! (4 * i + 1)) (body ! (4 * i + 2)) (body ! (4 * i + 3)))
 
--- "A record is read or the script stops there": what stands first in the bytes from an offset on
+-- what reading finds: a record, or where the script stops
 abbrev pub found : Call → Cursor → Result Record Stop
 found c next = Ok (record { call = c; next = next })
 
 abbrev pub stopped : ℕ → Result Record Stop
 stopped at = Err (record { offset = at })
 
+-- "A record is read or the script stops there": what stands first in the bytes from an offset on
 unfoldable pub read_here : ℕ → List ℕ → Result Record Stop
 read_here at [] = stopped at
 read_here at (kind ∷ body) =

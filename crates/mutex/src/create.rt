@@ -1,12 +1,12 @@
 // cre_mtx: a mutex is created.
-ghost use Rattle.std.specs.Prelude.{◌≡◌, cond, length, eqb};
+ghost use Rattle.std.specs.Prelude.{◌≡◌, cond, eqb};
 ghost use Rattle.std.proofs.Math.Option.{none};
 ghost use Rattle.model.specs.Code.{number};
 ghost use Rattle.model.specs.Facts.{ceilinged};
 ghost use Rattle.model.specs.Refusal.{first_refusal, cre_mtx_refusals};
 ghost use Rattle.model.specs.Effect.{cre_mtx};
 ghost use Rattle.model.specs.Errors.{refusal_of};
-ghost use Rattle.model.specs.Words.{word_count, kernel};
+ghost use Rattle.model.specs.Words.{kernel};
 ghost use Rattle.reply.specs.Replies.{CarriesInWords};
 
 use model::attribute::{CEILINGED, of_mutex};

@@ -1,5 +1,5 @@
 // loc_mtx: the caller takes a mutex or waits for it.
-ghost use Rattle.std.specs.Prelude.{◌≡◌, ◌&&◌, length, eqb, ltb};
+ghost use Rattle.std.specs.Prelude.{◌≡◌, ◌&&◌, eqb, ltb};
 ghost use Rattle.std.proofs.Math.Option.{none};
 ghost use Rattle.model.specs.Sizes.{tasks};
 ghost use Rattle.model.specs.Lists.{◌!◌};
@@ -12,7 +12,7 @@ ghost use Rattle.model.specs.Refusal.{first_refusal, loc_mtx_refusals};
 ghost use Rattle.model.specs.Effect.{loc_mtx};
 ghost use Rattle.model.specs.Valid.{Each, Priorities, Bitmap, Locking};
 ghost use Rattle.model.specs.Errors.{refusal_of};
-ghost use Rattle.model.specs.Words.{word_count, kernel};
+ghost use Rattle.model.specs.Words.{kernel};
 ghost use Rattle.state.specs.Words.{Represents};
 ghost use Rattle.act.specs.Held.{DoesInWords};
 ghost use Rattle.reply.specs.Replies.{CarriesInWords};

@@ -1,5 +1,5 @@
 // unl_mtx: the caller gives up a mutex.
-ghost use Rattle.std.specs.Prelude.{◌≡◌, length};
+ghost use Rattle.std.specs.Prelude.{◌≡◌};
 ghost use Rattle.std.proofs.Math.Option.{none};
 ghost use Rattle.model.specs.Code.{number};
 ghost use Rattle.model.specs.World.{running};
@@ -7,7 +7,7 @@ ghost use Rattle.model.specs.Refusal.{first_refusal, unl_mtx_refusals};
 ghost use Rattle.model.specs.Effect.{unl_mtx};
 ghost use Rattle.model.specs.Valid.{Arrivals, Priorities, Bitmap};
 ghost use Rattle.model.specs.Errors.{refusal_of};
-ghost use Rattle.model.specs.Words.{word_count, kernel};
+ghost use Rattle.model.specs.Words.{kernel};
 ghost use Rattle.reply.specs.Replies.{CarriesInLog};
 
 use act::mutex::release_settled;

@@ -1,12 +1,12 @@
 // cre_mpf: a fixed pool is created.
-ghost use Rattle.std.specs.Prelude.{◌*◌, ◌≡◌, false, pos, length};
+ghost use Rattle.std.specs.Prelude.{◌*◌, ◌≡◌, false, pos};
 ghost use Rattle.std.proofs.Math.Option.{none};
 ghost use Rattle.model.specs.Sizes.{blocks, block_bytes};
 ghost use Rattle.model.specs.Code.{number};
 ghost use Rattle.model.specs.Refusal.{first_refusal, cre_mpf_refusals, outside as is_outside};
 ghost use Rattle.model.specs.Effect.{cre_mpf};
 ghost use Rattle.model.specs.Errors.{refusal_of};
-ghost use Rattle.model.specs.Words.{word_count, kernel};
+ghost use Rattle.model.specs.Words.{kernel};
 ghost use Rattle.state.specs.Words.{Represents};
 ghost use Rattle.reply.specs.Replies.{CarriesInWords};
 ghost use Rattle.pool.specs.Rows.{pool_row};

@@ -1,12 +1,12 @@
 // del_mpf: a fixed pool is deleted.
-ghost use Rattle.std.specs.Prelude.{◌≡◌, length};
+ghost use Rattle.std.specs.Prelude.{◌≡◌};
 ghost use Rattle.std.proofs.Math.Option.{none};
 ghost use Rattle.model.specs.Sizes.{pools};
 ghost use Rattle.model.specs.Code.{number};
 ghost use Rattle.model.specs.Refusal.{first_refusal, deletion_refusals};
 ghost use Rattle.model.specs.Effect.{del_mpf};
 ghost use Rattle.model.specs.Errors.{refusal_of};
-ghost use Rattle.model.specs.Words.{word_count, kernel};
+ghost use Rattle.model.specs.Words.{kernel};
 ghost use Rattle.state.specs.Words.{Represents};
 ghost use Rattle.reply.specs.Replies.{CarriesInLog};
 ghost use Rattle.pool.specs.Rows.{all_freed, struck_out};

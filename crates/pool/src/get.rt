@@ -1,12 +1,12 @@
 // get_mpf: the caller gets a block of a fixed pool or waits for one.
-ghost use Rattle.std.specs.Prelude.{◌≡◌, length};
+ghost use Rattle.std.specs.Prelude.{◌≡◌};
 ghost use Rattle.std.proofs.Math.Option.{none};
 ghost use Rattle.model.specs.Code.{number};
 ghost use Rattle.model.specs.World.{running};
 ghost use Rattle.model.specs.Refusal.{first_refusal, get_mpf_refusals};
 ghost use Rattle.model.specs.Effect.{get_mpf};
 ghost use Rattle.model.specs.Errors.{refusal_of};
-ghost use Rattle.model.specs.Words.{word_count, kernel};
+ghost use Rattle.model.specs.Words.{kernel};
 ghost use Rattle.reply.specs.Replies.{CarriesInWords};
 
 use act::wait::wait;

@@ -1,11 +1,11 @@
 // rel_mpf: a block is returned to its fixed pool.
-ghost use Rattle.std.specs.Prelude.{◌≡◌, length};
+ghost use Rattle.std.specs.Prelude.{◌≡◌};
 ghost use Rattle.std.proofs.Math.Option.{none};
 ghost use Rattle.model.specs.Code.{number};
 ghost use Rattle.model.specs.Refusal.{first_refusal, rel_mpf_refusals};
 ghost use Rattle.model.specs.Effect.{rel_mpf};
 ghost use Rattle.model.specs.Errors.{refusal_of};
-ghost use Rattle.model.specs.Words.{word_count, kernel};
+ghost use Rattle.model.specs.Words.{kernel};
 ghost use Rattle.act.specs.Held.{DoesInLog};
 ghost use Rattle.reply.specs.Replies.{CarriesInLog};
 

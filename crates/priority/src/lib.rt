@@ -4,11 +4,11 @@
 mod own;
 mod walk;
 
-ghost use Rattle.std.specs.Prelude.{◌≡◌, ◌≤◌, length};
+ghost use Rattle.std.specs.Prelude.{◌≤◌};
 ghost use Rattle.model.specs.Sizes.{tasks, mutexes};
 ghost use Rattle.model.specs.Kernel.{with_current};
 ghost use Rattle.model.specs.World.{recompute};
-ghost use Rattle.model.specs.Words.{word_count, kernel};
+ghost use Rattle.model.specs.Words.{kernel};
 ghost use Rattle.state.specs.Words.{Represents};
 ghost use Rattle.priority.specs.Own.{base_of};
 ghost use Rattle.priority.specs.Afresh.{at_bases, at_own, holder_at_own, passed_on, worked_out};

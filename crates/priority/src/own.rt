@@ -1,8 +1,8 @@
 // A task's own priority, and which tasks' own priorities may differ from their bases.
-ghost use Rattle.std.specs.Prelude.{◌≡◌, ◌≤◌, length};
+ghost use Rattle.std.specs.Prelude.{◌≡◌, ◌≤◌};
 ghost use Rattle.model.specs.Sizes.{tasks, mutexes};
 ghost use Rattle.model.specs.Number.{word_number, maybe_task};
-ghost use Rattle.model.specs.Words.{word_count, kernel};
+ghost use Rattle.model.specs.Words.{kernel};
 ghost use Rattle.priority.specs.Own.{own_of, with_ceiling_of, ceiling_holder};
 
 use model::attribute::CEILINGED;

@@ -1,10 +1,10 @@
 // The two walks, which call each other: a raised task leads to the mutex that it waits for, the mutex to its holder. The tasks not yet visited are
 // those that are less urgent than the walk's priority; each raise leaves fewer of them, so the walks end, in a circle of waits too.
-ghost use Rattle.std.specs.Prelude.{◌≡◌, ◌≤◌, length};
+ghost use Rattle.std.specs.Prelude.{◌≡◌, ◌≤◌};
 ghost use Rattle.model.specs.Sizes.{tasks, mutexes};
 ghost use Rattle.model.specs.Number.{word_number, maybe_mutex};
 ghost use Rattle.model.specs.Kernel.{facts};
-ghost use Rattle.model.specs.Words.{word_count, kernel};
+ghost use Rattle.model.specs.Words.{kernel};
 ghost use Rattle.state.specs.Words.{Represents};
 ghost use Rattle.priority.specs.Walk.{mutex_awaited, passes_to, raised_kernel};
 

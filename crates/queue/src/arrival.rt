@@ -1,11 +1,11 @@
 // The arrival order, changed in place. A task that arrives stands last and is taken from where it stood; nothing counts up, so the
 // order is never used up.
-ghost use Rattle.std.specs.Prelude.{◌≡◌, ◌≤◌, length};
+ghost use Rattle.std.specs.Prelude.{◌≤◌};
 ghost use Rattle.model.specs.Sizes.{tasks};
 ghost use Rattle.model.specs.Facts.{queue};
 ghost use Rattle.model.specs.Kernel.{with_arrivals, departed, arrived};
 ghost use Rattle.model.specs.Act.{arrive as arriving};
-ghost use Rattle.model.specs.Words.{word_count, kernel};
+ghost use Rattle.model.specs.Words.{kernel};
 ghost use Rattle.state.specs.Words.{Represents};
 ghost use Rattle.queue.specs.Arriving.{Kept, Gathered, cleared_from};
 

@@ -1,12 +1,12 @@
 // The first of any queue. A queue is named by the place that its tasks have and the number of the object that they wait for.
-ghost use Rattle.std.specs.Prelude.{◌≡◌, cond, length};
+ghost use Rattle.std.specs.Prelude.{◌≡◌, cond};
 ghost use Rattle.model.specs.Lists.{◌!◌, select, head_of};
 ghost use Rattle.model.specs.Number.{maybe_task};
 ghost use Rattle.model.specs.Facts.{queue};
 ghost use Rattle.model.specs.Queue.{by_priority, sorted};
 ghost use Rattle.model.specs.Kernel.{facts, numbered, stands_in};
 ghost use Rattle.model.specs.World.{queue_front, heads_queue};
-ghost use Rattle.model.specs.Words.{word_count, kernel};
+ghost use Rattle.model.specs.Words.{kernel};
 ghost use Rattle.queue.specs.Better.{better};
 
 use model::attribute::{BY_ARRIVAL, BY_PRIORITY, PROTECTION};

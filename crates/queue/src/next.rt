@@ -1,12 +1,12 @@
 // The task that runs next.
-ghost use Rattle.std.specs.Prelude.{◌≡◌, ◌&&◌, length, eqb};
+ghost use Rattle.std.specs.Prelude.{◌≡◌, ◌&&◌, eqb};
 ghost use Rattle.model.specs.Lists.{◌!◌};
 ghost use Rattle.model.specs.Number.{maybe_task};
 ghost use Rattle.model.specs.Facts.{ready_queue};
 ghost use Rattle.model.specs.Kernel.{numbered, stands_in};
 ghost use Rattle.model.specs.World.{running};
 ghost use Rattle.model.specs.Valid.{Bitmap};
-ghost use Rattle.model.specs.Words.{word_count, kernel};
+ghost use Rattle.model.specs.Words.{kernel};
 
 use super::front::{current, stands_in};
 use model::number::TaskNumber;

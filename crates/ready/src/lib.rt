@@ -3,13 +3,13 @@
 
 mod bit;
 
-ghost use Rattle.std.specs.Prelude.{◌≡◌, length};
+ghost use Rattle.std.specs.Prelude.{◌≡◌};
 ghost use Rattle.model.specs.Lists.{◌!◌};
 ghost use Rattle.model.specs.Number.{maybe_task};
 ghost use Rattle.model.specs.Queue.{ready_at, ready_bitmap};
 ghost use Rattle.model.specs.Kernel.{facts};
 ghost use Rattle.model.specs.World.{with_fresh_bit, with_fresh_bits};
-ghost use Rattle.model.specs.Words.{word_count, kernel};
+ghost use Rattle.model.specs.Words.{kernel};
 ghost use Rattle.state.specs.Words.{Represents};
 ghost use Rattle.ready.specs.Tasks.{ready_task, is_ready_at, with_task};
 

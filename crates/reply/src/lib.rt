@@ -1,4 +1,4 @@
-// What a call comes to: whether it is refused, and, where it is carried out, its answer and where the log goes on.
+// What a call comes to: what refuses one, and, where it is carried out, its answer and where the log goes on.
 #![tactic(auto)]
 
 pub mod deletion;

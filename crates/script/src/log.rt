@@ -1,5 +1,5 @@
 // The items of a log, each appended whole at a place of a lent area; the answer is the next place. An item that does not fit
-// is left out, and the place stays.
+// is left out, and the place stays. These print by themselves: the contracts say each byte, in fixed memory, which Display does not.
 ghost use Rattle.std.specs.Prelude.{◌≡◌};
 ghost use Rattle.model.specs.Sizes.{message_bytes};
 ghost use Rattle.model.specs.Lists.{padded};

@@ -1,7 +1,7 @@
 // Blocks of a pool: the smallest free one, and whether one is handed out.
-ghost use Rattle.std.specs.Prelude.{◌≡◌, length};
+ghost use Rattle.std.specs.Prelude.{◌≡◌};
 ghost use Rattle.model.specs.Refusal.{free_block, handed_out};
-ghost use Rattle.model.specs.Words.{word_count, kernel};
+ghost use Rattle.model.specs.Words.{kernel};
 
 use model::number::{PoolNumber, natural};
 use state::layout::Words;

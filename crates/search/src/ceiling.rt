@@ -1,9 +1,9 @@
 // "a base above the ceiling of a mutex that task holds or waits for", for any base, also one that is not yet set.
-ghost use Rattle.std.specs.Prelude.{◌≡◌, length};
+ghost use Rattle.std.specs.Prelude.{◌≡◌};
 ghost use Rattle.model.specs.Sizes.{mutexes};
 ghost use Rattle.model.specs.Lists.{any, up_to};
 ghost use Rattle.model.specs.Refusal.{above_ceiling};
-ghost use Rattle.model.specs.Words.{word_count, kernel};
+ghost use Rattle.model.specs.Words.{kernel};
 
 use model::attribute::CEILINGED;
 use model::number::{MutexNumber, TaskNumber};

@@ -1,9 +1,9 @@
 // "counts times sizes of live pools": whether these and more bytes are above what all pools may have.
-ghost use Rattle.std.specs.Prelude.{◌≡◌, ◌+◌, ◌*◌, length, ltb};
+ghost use Rattle.std.specs.Prelude.{◌≡◌, ◌+◌, ◌*◌, ltb};
 ghost use Rattle.model.specs.Sizes.{pool_bytes};
 ghost use Rattle.model.specs.Lists.{◌!◌};
 ghost use Rattle.model.specs.Refusal.{pool_sum};
-ghost use Rattle.model.specs.Words.{word_count, kernel};
+ghost use Rattle.model.specs.Words.{kernel};
 
 use model::number::PoolNumber;
 use model::sizes::{POOL_BYTES, POOLS};

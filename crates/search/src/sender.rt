@@ -6,7 +6,7 @@ ghost use Rattle.model.specs.Facts.{queue, sending};
 ghost use Rattle.model.specs.Number.{maybe_task};
 ghost use Rattle.model.specs.World.{queue_front};
 ghost use Rattle.model.specs.Act.{first_fits};
-ghost use Rattle.model.specs.Words.{word_count, kernel};
+ghost use Rattle.model.specs.Words.{kernel};
 
 use message::room::room;
 use model::number::{BufferNumber, TaskNumber};

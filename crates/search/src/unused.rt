@@ -1,9 +1,9 @@
 // "A new object takes the smallest free number": the first whose entry is 0.
-ghost use Rattle.std.specs.Prelude.{◌≡◌, length};
+ghost use Rattle.std.specs.Prelude.{◌≡◌};
 ghost use Rattle.model.specs.Sizes.{tasks, mutexes, buffers, pools};
 ghost use Rattle.model.specs.Number.{maybe_task, maybe_mutex, maybe_buffer, maybe_pool};
 ghost use Rattle.model.specs.Act.{unused};
-ghost use Rattle.model.specs.Words.{word_count, kernel};
+ghost use Rattle.model.specs.Words.{kernel};
 
 use model::number::{BufferNumber, MutexNumber, PoolNumber, TaskNumber};
 use state::layout::Words;

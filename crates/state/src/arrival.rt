@@ -1,7 +1,7 @@
 // The arrival order: the started tasks, each once, the longest-standing first; then zeros.
-ghost use Rattle.std.specs.Prelude.{◌≡◌, length};
+ghost use Rattle.std.specs.Prelude.{◌≡◌};
 ghost use Rattle.model.specs.Lists.{◌!◌};
-ghost use Rattle.model.specs.Words.{word_count, kernel};
+ghost use Rattle.model.specs.Words.{kernel};
 ghost use Rattle.state.specs.Words.{with_arrival, Represents};
 
 use super::layout::{ARRIVAL_SLOTS, ARRIVALS, Words, get, put};

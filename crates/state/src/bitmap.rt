@@ -1,8 +1,8 @@
 // The word that has a bit for each priority: bit p - 1 is set if a task is ready at priority p.
-ghost use Rattle.std.specs.Prelude.{◌≡◌, length};
+ghost use Rattle.std.specs.Prelude.{◌≡◌};
 ghost use Rattle.model.specs.Lists.{◌!◌};
 ghost use Rattle.model.specs.Kernel.{with_bitmap};
-ghost use Rattle.model.specs.Words.{word_count, kernel};
+ghost use Rattle.model.specs.Words.{kernel};
 ghost use Rattle.state.specs.Words.{Represents};
 
 use super::layout::{BITMAP, BITMAP_SLOTS, Words, get, put};

@@ -1,6 +1,6 @@
-// Where each field stands among the words, and the one read and the one store that every accessor is made of.
+// Where each field stands among the words, and the one read and the one store that every accessor is made of. Each field has
+// accessors by its own name, since their contracts name its list; one pair with a number for the field could not.
 ghost use Rattle.std.specs.Prelude.{◌≡◌, ◌+◌, ◌≤◌, length};
-ghost use Rattle.model.specs.Lists.{zeros};
 ghost use Rattle.state.specs.Layout.{entry, with_entry};
 
 use model::sizes::{BLOCKS, BUFFERS, MUTEXES, PLACES, POOLS, TASKS};

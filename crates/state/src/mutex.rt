@@ -1,8 +1,8 @@
 // The mutexes' fields.
-ghost use Rattle.std.specs.Prelude.{◌≡◌, length};
+ghost use Rattle.std.specs.Prelude.{◌≡◌};
 ghost use Rattle.model.specs.Lists.{◌!◌};
 ghost use Rattle.model.specs.Kernel.{with_mutex_exists, with_mutex_attribute, with_ceiling, with_holder};
-ghost use Rattle.model.specs.Words.{word_count, kernel};
+ghost use Rattle.model.specs.Words.{kernel};
 ghost use Rattle.state.specs.Words.{Represents};
 
 use super::layout::{CEILING, HOLDER, MUTEX_ATTRIBUTE, MUTEX_EXISTS, MUTEX_SLOTS, Words, get, put};

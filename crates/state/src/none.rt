@@ -6,7 +6,7 @@ ghost use Rattle.model.specs.Lists.{◌!◌, all, count_from};
 ghost use Rattle.model.specs.Kernel.{slot};
 ghost use Rattle.model.specs.Valid.{lists, task_lists, mutex_lists, buffer_lists, pool_lists};
 ghost use Rattle.state.specs.Layout.{entry};
-ghost use Rattle.model.specs.Words.{word_count, kernel};
+ghost use Rattle.model.specs.Words.{kernel};
 
 use super::layout::{
     ARGUMENT, BASE, BLOCK_SLOTS, BUFFER_ATTRIBUTE, BUFFER_EXISTS, BUFFER_SLOTS, BUFSZ, CEILING,

@@ -1,10 +1,10 @@
 // The tasks' fields. A number outside the range of tasks reads as 0, and a store there does nothing; so the length of the lent words
 // is all that a caller has to show, here and in the other modules of fields.
-ghost use Rattle.std.specs.Prelude.{◌≡◌, ◌∷◌, length, replicate};
+ghost use Rattle.std.specs.Prelude.{◌≡◌, ◌∷◌, replicate};
 ghost use Rattle.model.specs.Sizes.{tasks};
 ghost use Rattle.model.specs.Lists.{◌!◌};
 ghost use Rattle.model.specs.Kernel.{with_place, with_object, with_argument, with_initial, with_base, with_current, with_currents, with_left};
-ghost use Rattle.model.specs.Words.{word_count, kernel};
+ghost use Rattle.model.specs.Words.{kernel};
 ghost use Rattle.state.specs.Words.{Represents};
 
 use super::layout::{

@@ -8,7 +8,7 @@ use model::number::task_word;
 use queue::front::front;
 use state::layout::Words;
 
-// The first of a queue, which is named by the place that its tasks have and the number of the object that they wait for.
+// A number, 0 for none, as C sees it in the rows. The first of a queue, which is named by the place that its tasks have and the number of the object that they wait for.
 pub fn first_of(state: &Words, place: u32, object: u32) -> u32
     ensures { result ≡ queue_front (kernel state.now) (queue place object) }
 {

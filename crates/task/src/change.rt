@@ -1,5 +1,5 @@
 // chg_pri.
-ghost use Rattle.std.specs.Prelude.{◌≤◌, ◌≡◌, length};
+ghost use Rattle.std.specs.Prelude.{◌≤◌, ◌≡◌};
 ghost use Rattle.std.proofs.Math.Option.{none};
 ghost use Rattle.model.specs.Sizes.{tasks};
 ghost use Rattle.model.specs.Number.{word_number, maybe_task};
@@ -8,7 +8,7 @@ ghost use Rattle.model.specs.Kernel.{with_base};
 ghost use Rattle.model.specs.Refusal.{first_refusal, chosen_task, chosen_base, chg_pri_refusals};
 ghost use Rattle.model.specs.Effect.{rejoin as rejoined, chg_pri};
 ghost use Rattle.model.specs.Errors.{refusal_of};
-ghost use Rattle.model.specs.Words.{word_count, kernel};
+ghost use Rattle.model.specs.Words.{kernel};
 ghost use Rattle.state.specs.Words.{Represents};
 ghost use Rattle.reply.specs.Replies.{CarriesInWords};
 

@@ -1,12 +1,12 @@
 // sta_tsk, ext_tsk and ter_tsk.
-ghost use Rattle.std.specs.Prelude.{◌≡◌, length};
+ghost use Rattle.std.specs.Prelude.{◌≡◌};
 ghost use Rattle.std.proofs.Math.Option.{none};
 ghost use Rattle.model.specs.Code.{number};
 ghost use Rattle.model.specs.World.{running};
 ghost use Rattle.model.specs.Refusal.{first_refusal, dormant_refusals, ter_tsk_refusals};
 ghost use Rattle.model.specs.Effect.{sta_tsk, ext_tsk, ter_tsk};
 ghost use Rattle.model.specs.Errors.{refusal_of};
-ghost use Rattle.model.specs.Words.{word_count, kernel};
+ghost use Rattle.model.specs.Words.{kernel};
 ghost use Rattle.reply.specs.Replies.{CarriesInWords, CarriesInLog};
 
 use act::task::become_dormant;

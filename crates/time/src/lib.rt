@@ -1,11 +1,10 @@
 // The call of time: tick. Nothing refuses it, and no task makes it.
 #![tactic(auto)]
 
-ghost use Rattle.std.specs.Prelude.{ℕ, ◌≡◌, length};
+ghost use Rattle.std.specs.Prelude.{ℕ};
 ghost use Rattle.model.specs.Sizes.{tasks};
 ghost use Rattle.model.specs.Valid.{From};
 ghost use Rattle.model.specs.Effect.{tick_task, tick as ticked};
-ghost use Rattle.model.specs.Words.{word_count};
 ghost use Rattle.act.specs.Held.{DoesInLog};
 ghost use Rattle.reply.specs.Replies.{CarriesInLog};
 ghost use Rattle.time.specs.Ticks.{ticks};

@@ -1,10 +1,8 @@
 // Waiting senders are served: "Last in each call, buffers 1 to 4: while the first sender's message fits, it is stored and that wait ends with 0."
-ghost use Rattle.std.specs.Prelude.{◌≡◌, length};
-ghost use Rattle.model.specs.Sizes.{tasks, buffers};
-ghost use Rattle.model.specs.Facts.{queue};
+ghost use Rattle.model.specs.Sizes.{buffers};
 ghost use Rattle.model.specs.Valid.{From};
 ghost use Rattle.model.specs.Act.{store_first, drain as drained};
-ghost use Rattle.model.specs.Words.{word_count, kernel};
+ghost use Rattle.model.specs.Words.{kernel};
 ghost use Rattle.act.specs.Held.{areas, Does};
 ghost use Rattle.transfer.specs.Serving.{FirstSender, served};
 

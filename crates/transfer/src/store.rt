@@ -2,7 +2,7 @@
 ghost use Rattle.std.specs.Prelude.{◌≡◌, true, length};
 ghost use Rattle.model.specs.Act.{fits, store_message};
 ghost use Rattle.model.specs.Effect.{take_oldest};
-ghost use Rattle.model.specs.Words.{word_count, kernel};
+ghost use Rattle.model.specs.Words.{kernel};
 ghost use Rattle.act.specs.Held.{DoesInStore};
 
 use message::room::cost;

@@ -1,10 +1,10 @@
 // 01, "Sound": "each task in one line or dormant [..] no two in a line having joined at once": the arrival order has each started task
 // once, and nobody else.
-ghost use Rattle.std.specs.Prelude.{◌≡◌, cond, length, eqb};
+ghost use Rattle.std.specs.Prelude.{◌≡◌, cond, eqb};
 ghost use Rattle.model.specs.Sizes.{tasks};
 ghost use Rattle.model.specs.Lists.{all, occurrences, padded, same, up_to};
 ghost use Rattle.model.specs.Valid.{arrivals};
-ghost use Rattle.model.specs.Words.{word_count, kernel};
+ghost use Rattle.model.specs.Words.{kernel};
 ghost use Rattle.valid.specs.Parts.{stands_once, has_started, given};
 
 use super::range::may_hold;

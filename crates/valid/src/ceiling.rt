@@ -1,9 +1,9 @@
 // 01, "Sound": "no base above a held or awaited ceiling".
-ghost use Rattle.std.specs.Prelude.{◌≡◌, length};
+ghost use Rattle.std.specs.Prelude.{◌≡◌};
 ghost use Rattle.model.specs.Sizes.{mutexes};
 ghost use Rattle.model.specs.Lists.{all, up_to};
 ghost use Rattle.model.specs.Valid.{ceiling};
-ghost use Rattle.model.specs.Words.{word_count, kernel};
+ghost use Rattle.model.specs.Words.{kernel};
 
 use model::number::TaskNumber;
 use search::ceiling::above_any_ceiling;

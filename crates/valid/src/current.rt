@@ -1,10 +1,10 @@
 // 01, "Sound": "priorities [..] as worked out afresh", and by 02, request Three, "the bits as worked out afresh". Priorities are worked out on a
 // copy, and the copy's are compared.
-ghost use Rattle.std.specs.Prelude.{◌≡◌, length};
+ghost use Rattle.std.specs.Prelude.{◌≡◌};
 ghost use Rattle.model.specs.Sizes.{tasks};
 ghost use Rattle.model.specs.Lists.{all, up_to};
 ghost use Rattle.model.specs.Valid.{TaskLists, current_priorities, right_bitmap};
-ghost use Rattle.model.specs.Words.{word_count, kernel};
+ghost use Rattle.model.specs.Words.{kernel};
 ghost use Rattle.valid.specs.Parts.{same_current};
 
 use model::number::TaskNumber;

@@ -1,10 +1,9 @@
 // Entries by a word of the state that should name an object. 01, "Sound", asks that "unused entries" are "as in the fresh bench", so none's
 // entry, entry 0, is 0; that is seen before these are called. A word beyond the last number reads as 0 too.
-ghost use Rattle.std.specs.Prelude.{◌≡◌, length};
-ghost use Rattle.model.specs.Sizes.{mutexes, buffers, pools};
+ghost use Rattle.std.specs.Prelude.{◌≡◌};
 ghost use Rattle.model.specs.Lists.{◌!◌};
 ghost use Rattle.model.specs.Valid.{MutexLists, BufferLists, PoolLists};
-ghost use Rattle.model.specs.Words.{word_count, kernel};
+ghost use Rattle.model.specs.Words.{kernel};
 
 use model::number::{BufferNumber, MutexNumber, PoolNumber};
 use state::layout::Words;

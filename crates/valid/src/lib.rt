@@ -12,11 +12,10 @@ mod range;
 mod wait;
 mod waiter;
 
-ghost use Rattle.std.specs.Prelude.{◌≡◌, length};
-ghost use Rattle.model.specs.Sizes.{tasks, mutexes, buffers, pools};
+ghost use Rattle.std.specs.Prelude.{◌≡◌};
 ghost use Rattle.model.specs.Valid.{TaskLists, MutexLists, BufferLists, PoolLists};
 ghost use Rattle.model.specs.Flags.{joined_flags};
-ghost use Rattle.model.specs.Words.{word_count, kernel};
+ghost use Rattle.model.specs.Words.{kernel};
 ghost use Rattle.model.specs.Lent.{lent, is_valid};
 ghost use Rattle.valid.specs.Check.{right_lengths, none_zero, clauses};
 

@@ -1,8 +1,8 @@
 // 01, "Receive": "Before it is taken, the next message, its bytes alone, is shown where it lies, in the store or in the sending bay, without
 // copying." What is lent is checked first.
-ghost use Rattle.std.specs.Prelude.{◌≡◌, length};
+ghost use Rattle.std.specs.Prelude.{◌≡◌};
 ghost use Rattle.message.specs.NextMessage.{located};
-ghost use Rattle.model.specs.Words.{word_count, kernel};
+ghost use Rattle.model.specs.Words.{kernel};
 ghost use Rattle.valid.specs.Shown.{shown_location, shown_message};
 
 use super::is_valid;

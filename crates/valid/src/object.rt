@@ -1,10 +1,10 @@
 // 01, "Sound": what is asked of every task and of every message buffer, each number once. None's entries are seen to be 0 before.
-ghost use Rattle.std.specs.Prelude.{◌≡◌, length};
-ghost use Rattle.model.specs.Sizes.{tasks, mutexes, buffers, pools};
+ghost use Rattle.std.specs.Prelude.{◌≡◌};
+ghost use Rattle.model.specs.Sizes.{tasks, buffers};
 ghost use Rattle.model.specs.Lists.{all, up_to};
 ghost use Rattle.model.specs.Valid.{MutexLists, BufferLists, PoolLists};
 ghost use Rattle.model.specs.Flags.{passes};
-ghost use Rattle.model.specs.Words.{word_count, kernel};
+ghost use Rattle.model.specs.Words.{kernel};
 ghost use Rattle.valid.specs.Check.{task_tests, buffer_tests};
 
 use super::ceiling::ceilings_of;

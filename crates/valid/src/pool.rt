@@ -1,10 +1,10 @@
 // 01, "Sound": "numbers in range" of the blocks' flags and of the pools' bytes.
-ghost use Rattle.std.specs.Prelude.{◌≡◌, suc, length, leb};
+ghost use Rattle.std.specs.Prelude.{◌≡◌, suc, leb};
 ghost use Rattle.model.specs.Sizes.{pools, blocks, pool_bytes};
 ghost use Rattle.model.specs.Lists.{all, count_from, up_to};
 ghost use Rattle.model.specs.Refusal.{pool_sum};
 ghost use Rattle.model.specs.Valid.{block_flag, PoolLists};
-ghost use Rattle.model.specs.Words.{word_count, kernel};
+ghost use Rattle.model.specs.Words.{kernel};
 ghost use Rattle.valid.specs.Check.{block_flags};
 
 use super::range::within;

@@ -1,11 +1,11 @@
 // 01, "Sound": "numbers in range; unused entries as in the fresh bench". A test joins flags by `&` and `|`, which ask both sides, so that
 // its answer is the definition's formula as it stands.
-ghost use Rattle.std.specs.Prelude.{◌≡◌, ◌||◌, length, eqb, leb};
+ghost use Rattle.std.specs.Prelude.{◌≡◌, ◌||◌, eqb, leb};
 ghost use Rattle.model.specs.Sizes.{mutexes, pools};
 ghost use Rattle.model.specs.Lists.{◌!◌, all, up_to, within};
 ghost use Rattle.model.specs.Facts.{ready};
 ghost use Rattle.model.specs.Valid.{task_range, mutex_range, buffer_range, pool_range};
-ghost use Rattle.model.specs.Words.{word_count, kernel};
+ghost use Rattle.model.specs.Words.{kernel};
 
 use model::attribute;
 use model::attribute::CEILINGED;

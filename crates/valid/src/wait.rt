@@ -1,9 +1,8 @@
 // 01, "Sound": what a task's wait has, and what it waits for. None's entries are seen to be 0 before these are called.
 ghost use Rattle.std.specs.Prelude.{◌≡◌, length};
-ghost use Rattle.model.specs.Sizes.{mutexes, buffers, pools};
 ghost use Rattle.model.specs.Lists.{◌!◌};
 ghost use Rattle.model.specs.Valid.{MutexLists, BufferLists, PoolLists, awaitable, argument, wait_fields, locking_task};
-ghost use Rattle.model.specs.Words.{word_count, kernel};
+ghost use Rattle.model.specs.Words.{kernel};
 
 use super::entry;
 use super::range::within;

@@ -1,11 +1,11 @@
 // 01, "Sound": who may not wait at a pool or a buffer, since what it waits for is there. None's entries are seen to be 0 before these
 // are called.
-ghost use Rattle.std.specs.Prelude.{◌≡◌, length, eqb};
-ghost use Rattle.model.specs.Sizes.{tasks, buffers, pools};
+ghost use Rattle.std.specs.Prelude.{◌≡◌, eqb};
+ghost use Rattle.model.specs.Sizes.{tasks};
 ghost use Rattle.model.specs.Lists.{all, up_to};
 ghost use Rattle.model.specs.Refusal.{free_block};
 ghost use Rattle.model.specs.Valid.{BufferLists, PoolLists, getting_task, receiving_task, first_sender};
-ghost use Rattle.model.specs.Words.{word_count, kernel};
+ghost use Rattle.model.specs.Words.{kernel};
 ghost use Rattle.valid.specs.Parts.{no_sender};
 
 use super::entry;

@@ -18,6 +18,7 @@ fn fill(words: &mut [u32], bytes: &[u8])
     requires { 4 * length words.old ≤ length bytes.now }
     ensures { words.new ≡ words_of (length words.old) bytes.now }
 {
+    // a word for every four bytes of the other slice, so both go by the place
     for i in 0..words.len() {
         words[i] = word(bytes, 4 * i);
     }
