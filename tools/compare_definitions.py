@@ -15,7 +15,7 @@ import tempfile
 HEAD = """use Rattle.std.specs.Prelude.{ℕ, zero, suc, ◌≡◌, Bool, true, false, ◌&&◌, List, [], ◌∷◌, ◌++◌, map, length, take, leb, eqb}
 use mathlib.Core.Path.{refl}
 use lib.ListN.{replicate}
-use Rattle.model.specs.declared.call.Read.TheVariants.{Record, Stop}
+use Rattle.std.specs.Prelude.{Ok, Err}
 use Rattle.model.specs.declared.call.Progress.TheVariants.{Answered, Over, NoArea}
 use Rattle.model.specs.Sizes.{store_bytes, outbox_bytes, log_bytes}
 use Rattle.model.specs.Lists.{all, same, count_from, zeros}
@@ -49,10 +49,10 @@ abbrev follow : ℕ → Lent → Ledger → List ℕ → ℕ → Bool
 follow zero x l s at = true
 follow (suc n) x l s at =
     elim (leb (length s) at) [ true ↦ true | false ↦
-    elim (read_record s at) [ Stop offset ↦ true | Record c next ↦
-      let o = step x c (record_message s at) in
-      let m = entered l c o.answer (map (λ e. (e.task, e.code)) o.ended) in
-      agree (o.lent.kernel) m && follow n o.lent m s next.at ] ]
+    elim (read_record s at) [ Err stop ↦ true | Ok r ↦
+      let o = step x r.call (record_message s at) in
+      let m = entered l r.call o.answer (map (λ e. (e.task, e.code)) o.ended) in
+      agree (o.lent.kernel) m && follow n o.lent m s r.next.at ] ]
 
 """
 
