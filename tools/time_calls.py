@@ -25,7 +25,7 @@ ghost use Rattle.call.specs.Steps.{Ready};
 
 use call::step::valid_step;
 use model::call::{Cursor, Progress, Record};
-use model::number::{task_byte, TaskNumber};
+use model::number::{TaskNumber, task_byte};
 use queue::next::next_to_run;
 use run::run_record;
 use script::reader::{message, read_record};

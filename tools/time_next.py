@@ -18,7 +18,7 @@ CRATE = """// The search for the next task, ways to the first bit, and the keepi
 ghost use Rattle.model.specs.Valid.{Bitmap};
 ghost use Rattle.model.specs.Words.{kernel};
 
-use model::number::{task_byte, TaskNumber};
+use model::number::{TaskNumber, task_byte};
 use queue::next::next_to_run;
 use state::layout::Words;
 
