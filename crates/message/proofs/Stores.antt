@@ -1,14 +1,15 @@
--- Stores of a list's elements from a place on, `sets` of `lib.Seq`: what lies beyond the end is left out. And the
--- library's calls that store them. Assumes nothing.
-use Prim.Native.Nat.{ℕ, zero, suc, ◌+◌, ◌-◌, ◌≤◌, min}
+-- Stores of a list's elements from a place on, `sets` of `lib.Seq`: what lies beyond the end is left out. And a loop
+-- and the library's calls that store them. Assumes nothing.
+use Prim.Native.Nat.{ℕ, zero, suc, ◌+◌, ◌-◌, ◌≤◌, ◌<◌, min}
 use native.Mathlib.Decide.{dec_le}
 use native.Mathlib.Nat.{add-suc, suc-add, add-zero, zero-add}
+use native.Mathlib.Numerals.{add-one}
 use native.Mathlib.Omega.{arith}
 use mathlib.Core.List.{List, [], ◌∷◌, ◌++◌, append-nil}
 use mathlib.Core.Path.{◌≡◌, ◌∙◌, refl, sym, ap}
-use lib.ListN.{length, take, drop, set, length-append, length-drop, drop_of_length-le}
+use lib.ListN.{length, get_or, take, drop, set, length-set, length-append, length-drop, drop_of_length-le}
 use Rattle.model.specs.Message.{over, overwritten}
-use lib.Seq.{sets, set_out, take_all, take-length}
+use lib.Seq.{sets, set_out, take_all, take-length, drop-cons}
 
 -- beyond the end nothing is stored
 pub sets-out : (xs l : List ℕ) (i : ℕ) → length l ≤ i → sets l i xs ≡ l
@@ -69,6 +70,29 @@ pub sets-lent : (xs l : List ℕ) (a : ℕ) → take a l ++ (sets (take (length 
 sets-lent xs l a =
     let all : length (drop a l) ≤ length l - a = rw length-drop (omega arith) in
     rw (take_all (length l - a) (drop a l) all, drop_of_length-le (drop a l) all, append-nil) (sym (sets_behind a xs l))
+
+-- What a loop has still to store of xs from `at` on, into what was r₀ at its beginning and is r after i stores.
+pub record LeftToStore (xs : List ℕ) (at : ℕ) (r₀ r : List ℕ) (i : ℕ) : Type 0 where
+  pub size : length r ≡ length r₀
+  pub rest : sets r (at + i) (drop i xs) ≡ sets r₀ at xs
+
+module _ {xs : List ℕ} {at : ℕ} {r₀ : List ℕ} where
+  pub left-all : LeftToStore xs at r₀ r₀ 0
+  left-all = record { size = refl; rest = rw add-zero }
+
+  pub left-turn : {r : List ℕ} {i v : ℕ} → LeftToStore xs at r₀ r i → i < length xs → get_or xs i 0 ≡ v → LeftToStore xs at r₀ (set r (at + i) v) (i + 1)
+  left-turn {r} {i} {v} l h e =
+      record {
+        size = length-set r (at + i) v ∙ l.size;
+        rest = rw (add-one, add-suc, ← e) (rw (drop-cons xs i 0 h) at l.rest);
+      }
+
+  pub left-none : {r : List ℕ} {i : ℕ} → LeftToStore xs at r₀ r i → min (length xs) (length r₀ - at) ≤ i → r ≡ sets r₀ at xs
+  left-none {r} {i} l h = go (dec_le (length xs) i) ∙ l.rest
+    where
+      go : Dec (length xs ≤ i) → r ≡ sets r (at + i) (drop i xs)
+      go (yes p) = rw (drop_of_length-le xs p)
+      go (no p) = sym (sets-out (drop i xs) r (at + i) (let s = l.size in omega arith))
 
 -- what a library's call has written from a place on: as much of the elements as there is room for
 sets-room : (xs r ys : List ℕ) {k : ℕ} → k ≡ min (length xs) (length r) → ys ≡ take k xs → ys ++ drop k r ≡ sets r 0 xs

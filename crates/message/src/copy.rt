@@ -17,8 +17,10 @@ pub(crate) fn copy_in(r: &mut [u8], at: usize, m: &[u8], n: usize)
 {
     if at < r.len() {
         let count = n.min(m.len()).min(r.len() - at);
-        let end = at + count;
-        r[at..end].copy_from_slice(&m[..count]);
+        // byte by byte, as `put` of `script` does, for the same reason
+        for (i, byte) in m[..count].iter().enumerate() {
+            r[at + i] = *byte;
+        }
     }
 }
 

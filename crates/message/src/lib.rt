@@ -1,7 +1,7 @@
 // Messages: how they lie in a buffer's region and in the outbox, and the next one to be received.
 #![tactic(auto)]
 
-mod copy;
+pub mod copy;
 pub mod next;
 pub mod outbox;
 mod part;

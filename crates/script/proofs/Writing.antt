@@ -180,7 +180,7 @@ module _ (c : Call) (b : Body) (known : body_parts (kind_of c) ≡ Some b) where
   parts : KnownParts (row_of (kind_of c)) b.fields b.message
   parts = row-of-parts (kind_of c) b known
 
-  fields-of-call : b.fields ≡ 4 * length (fields_of c)
+  pub fields-of-call : b.fields ≡ 4 * length (fields_of c)
   fields-of-call =
       let r = call-row c in
       let e : parts.row ≡ r.row = some_inj (sym parts.is ∙ r.is) in

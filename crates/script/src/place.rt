@@ -25,9 +25,11 @@ pub fn put(area: &mut [u8], at: usize, bytes: &[u8]) -> usize
     if !room(area.len(), at, bytes.len()) {
         return at;
     }
-    let end = at + bytes.len();
-    area[at..end].copy_from_slice(bytes);
-    end
+    // byte by byte: `copy_from_slice` becomes a call of memmove, which the archives for C do without
+    for (i, byte) in bytes.iter().enumerate() {
+        area[at + i] = *byte;
+    }
+    at + bytes.len()
 }
 
 // Two runs of bytes as one: where there is no room for both, neither is written.
