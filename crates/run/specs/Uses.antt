@@ -55,7 +55,7 @@ AllPromised a (u ∷ us) = Promised a u × AllPromised (left u) us
 abbrev pub after_use : AreasWithLedger → Use → AreasWithLedger
 after_use b u = record { areas = left u; ledger = told b.ledger (lent_in b.areas) (call_of (invocation u)) (came_back u) }
 
--- Words that `state::fresh` has filled, zero areas, and the fresh ledger.
+-- Words that `state::fresh` has filled, or `state::make_fresh`, which the programs call: both promise `Filling`. Zero areas, and the fresh ledger.
 pub record Begun (b : AreasWithLedger) : Type 0 where
   pub lent : List ℕ
   pub answer : Result Unit WrongLength

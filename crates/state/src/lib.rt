@@ -11,7 +11,7 @@ pub mod none;
 pub mod pool;
 pub mod task;
 
-ghost use Rattle.std.specs.Prelude.{◌≡◌};
+ghost use Rattle.std.specs.Prelude.{◌≡◌, Ok};
 ghost use Rattle.model.specs.Kernel.{fresh};
 ghost use Rattle.model.specs.Words.{words};
 ghost use Rattle.state.specs.Fresh.{Filling};
@@ -40,9 +40,11 @@ pub fn fresh(state: &mut [u32]) -> Result<(), WrongLength>
     Ok(())
 }
 
-// The same of an area that has a state's length.
+// The same of an area that has a state's length: nothing can be refused. It is filled as `fresh` fills it, so what is said of words that `fresh` has filled
+// holds of these.
 pub fn make_fresh(state: &mut Words)
-    ensures { state.new ≡ words fresh }
+    ensures fresh { state.new ≡ words fresh }
+    ensures filled { Filling state.old (Ok tt) state.new }
 {
     *state = [0; layout::WORDS];
     put(state, layout::PLACE, TASK_SLOTS, FIRST, task::READY);

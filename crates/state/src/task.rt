@@ -1,5 +1,5 @@
-// The tasks' fields. A number outside the range of tasks reads as 0, and a store there does nothing; so the length of the lent words
-// is all that a caller has to show, here and in the other modules of fields.
+// The tasks' fields. A number outside the range of tasks reads as 0, and a store there does nothing; so a caller has nothing to show, here and
+// in the other modules of fields.
 ghost use Rattle.std.specs.Prelude.{◌≡◌, ◌∷◌, replicate};
 ghost use Rattle.model.specs.Sizes.{tasks};
 ghost use Rattle.model.specs.Lists.{◌!◌};

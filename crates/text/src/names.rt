@@ -1,5 +1,5 @@
 // The names of calls, of their fields and of errors, also put at a place of a lent line.
-ghost use Rattle.std.specs.Prelude.{◌≡◌};
+ghost use Rattle.std.specs.Prelude.{◌≡◌, ◌≤◌, length};
 ghost use Rattle.script.specs.Place.{Appends};
 ghost use Rattle.text.specs.Names.{template, error_name};
 
@@ -38,7 +38,8 @@ pub fn template(kind: u8) -> &'static [u8]
 }
 
 pub fn put_template(line: &mut [u8], at: usize, kind: u8) -> usize
-    ensures { Appends line.old at (template kind) line.new result }
+    ensures text { Appends line.old at (template kind) line.new result }
+    ensures short { length (template kind) ≤ TEMPLATE_BYTES }
 {
     put(line, at, template(kind))
 }

@@ -10,4 +10,4 @@ unfolding sizes
 returns-in_default c = left_alone _ c.in_default.ensures.cases
 
 pub returns : goal.returns
-returns c = made _ _ (long _ (search rules)) c.make_fresh.ensures
+returns c = made _ _ (long _ (search rules)) c.make_fresh.ensures.fresh
